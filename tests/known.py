@@ -3,6 +3,7 @@ take a text that is a case of cases.txt from there, and REFUSED has the texts of
 
 import os
 from collections.abc import Iterator
+from typing import NamedTuple
 
 from cases import listed
 from refusal_table import place_of
@@ -76,7 +77,7 @@ SHOWN = [
             "-": (
                 b"p min 3 6\nn 1 4\nn 3 -4\nn 2 0\na 3 1 0 4 1\na 1 2 1 3 2\na 1 2 0 2 5\na 1 2 2 2 -7\na 2 3 0 0 9\n"
                 b"a 1 2 0 1 2\n"
-            ),
+            )
         },
         b"kind min\nnodes 3\nlines 6\nsupplies 2\npairs 2\npair 1 2 forced 3 cost -12 steps 2\n"
         b"pair 3 1 forced 0 cost 0 steps 1\n",
@@ -105,7 +106,7 @@ SHOWN = [
             "x.min": (
                 b"p min 2 2\na 1 2 4611686018427387904 4611686018427387904 -9223372036854775808\n"
                 b"a 1 2 4611686018427387903 4611686018427387903 9223372036854775807\n"
-            ),
+            )
         },
         b"kind min\nnodes 2\nlines 2\nsupplies 0\npairs 1\n"
         b"pair 1 2 forced 9223372036854775807 cost -13835058055282163711 steps 0\n",
@@ -119,7 +120,7 @@ SHOWN = [
                 b"p min 9223372036854775807 1\n"
                 b"a 9223372036854775807 9223372036854775807 9223372036854775807 9223372036854775807 "
                 b"-9223372036854775808\n"
-            ),
+            )
         },
         b"kind min\nnodes 9223372036854775807\nlines 1\nsupplies 0\npairs 1\n"
         b"pair 9223372036854775807 9223372036854775807 forced 9223372036854775807 cost "
@@ -517,16 +518,30 @@ REFUSED = [
 ]
 
 
-def rows() -> Iterator[tuple[str, dict[str, bytes], bytes, bytes, int]]:
-    """Yields all runs of the tables: arguments, texts by their names, both streams and the status."""
-    yield "", {"-": ROADS}, ROADS_CANON, b"", 0
-    yield from [*SHOWN, *CHECKED, *FITTED, *PAIRS, *OTHERS]
+class Row(NamedTuple):
+    """A run: arguments, texts by their names (`-` is standard input), both streams and the status."""
+
+    words: str
+    named: dict[str, bytes]
+    out: bytes
+    err: bytes
+    status: int
+
+    def name(self) -> str:
+        """Returns a name of the run: its words, and the first line that it prints."""
+        return f"{self.words}: {(self.err or self.out).decode().partition(chr(10))[0]}"
+
+
+def rows() -> Iterator[Row]:
+    """Yields all runs of the tables."""
+    yield Row("", {"-": ROADS}, ROADS_CANON, b"", 0)
+    yield from (Row(*it) for it in [*SHOWN, *CHECKED, *FITTED, *PAIRS, *OTHERS])
     for text, err in REFUSED:
-        yield "canon t", {"t": text}, b"", err, 2
+        yield Row("canon t", {"t": text}, b"", err, 2)
     for text, one, two in CANONICAL:
         for given in [text, one, two]:
-            yield "canon t", {"t": given}, one, b"", 0
-            yield "canon --form 2 t", {"t": given}, two, b"", 0
+            yield Row("canon t", {"t": given}, one, b"", 0)
+            yield Row("canon --form 2 t", {"t": given}, two, b"", 0)
     for left, right, there, back in COMPARED:
-        yield "compare l r", {"l": left, "r": right}, there, b"", 1
-        yield "compare l r", {"l": right, "r": left}, back, b"", 1
+        yield Row("compare l r", {"l": left, "r": right}, there, b"", 1)
+        yield Row("compare l r", {"l": right, "r": left}, back, b"", 1)

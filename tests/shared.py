@@ -1,6 +1,5 @@
-"""What the tests of the built program share with each other and with tools/: which program is tested, how it is run,
-and how results are compared and counted. A test prints a line for each failure, and at the end how many checks passed
-and failed. What a tool takes from here it finds by adding tests/ to its path; no test imports a tool."""
+"""What the tests of the built program share with each other and with tools/: which program is tested, and how it is
+run. What a tool takes from here it finds by adding tests/ to its path; no test imports a tool."""
 
 import contextlib
 import functools
@@ -36,62 +35,15 @@ class Answer(NamedTuple):
     status: int
 
 
-class Tally:
-    """The number of checks that passed and failed."""
-
-    def __init__(self) -> None:
-        self.passed = self.failed = 0
-
-    def same(self, name: str, found: object, wanted: object) -> None:
-        """Checks that both are the same, and otherwise prints what differs."""
-        if found == wanted:
-            self.passed += 1
-        else:
-            self.fail(f"{name}: wanted {wanted!r:.300}, found {found!r:.300}")
-
-    def holds(self, name: str, is_so: object) -> None:
-        """Checks that this holds, and otherwise prints that it does not."""
-        self.same(name, bool(is_so), True)
-
-    def wants(self, what: str, found: Answer, out: str | bytes = b"", err: str | bytes = b"", status: int = 0) -> None:
-        """Checks what a run printed, and its status."""
-        self.same(what, found, Answer(os.fsencode(out), os.fsencode(err), status))
-
-    def fail(self, line: str) -> None:
-        self.failed += 1
-        print(line, flush=True)
-
-    def leave_out(self, what: str, tool: str) -> None:
-        """Prints that a part is left out, and which tool it needs. If CI=true is set, that is a failure."""
-        if os.environ.get("CI") == "true":
-            self.fail(f"left out, since {tool} is missing: {what}")
-        else:
-            self.pass_over(what, tool)
-
-    def pass_over(self, what: str, needs: str) -> None:
-        """Prints that a part is left out because this machine does not allow it, and what it needs."""
-        print(f"left out, since {needs} is missing: {what}", flush=True)
-
-    def end(self) -> int:
-        """Prints how many checks passed and failed, and returns the status."""
-        print(f"{self.passed} passed, {self.failed} failed")
-        return 0 if self.failed == 0 else 1
+def said(out: str | bytes = b"", err: str | bytes = b"", status: int = 0) -> Answer:
+    """Returns the answer of a run that prints this, and ends with this status."""
+    return Answer(os.fsencode(out), os.fsencode(err), status)
 
 
-def is_quick() -> bool:
-    """Whether the first argument is --quick, by which a test takes less time. It is removed from the arguments."""
-    found = sys.argv[1:2] == ["--quick"]
-    if found:
-        del sys.argv[1]
-    return found
-
-
-def program() -> str:
-    """Returns the program that is tested: the first argument, or else the one that tools/program names. From then on
-    signals end the test as an exit does."""
-    end_by_signals()
-    if sys.argv[1:]:
-        path = os.path.abspath(sys.argv[1])
+def program_at(given: str | None) -> str:
+    """Returns the path of a program that is given, or else the one that tools/program names."""
+    if given:
+        path = os.path.abspath(given)
     else:
         named = subprocess.run([f"{ROOT}/tools/program"], stdout=subprocess.PIPE, text=True, check=False)
         if named.returncode:
@@ -101,6 +53,13 @@ def program() -> str:
     if not os.path.isfile(path) or not os.access(path, os.X_OK):
         sys.exit(f"{path} is not a program")
     return path
+
+
+def program() -> str:
+    """Returns the program of a command line: the first argument, or else the one that tools/program names. From then on
+    signals end this process as an exit does."""
+    end_by_signals()
+    return program_at(sys.argv[1] if sys.argv[1:] else None)
 
 
 def exit_by(number: int, _: object) -> None:
@@ -167,7 +126,7 @@ def make_page() -> None:
     write(f"{ROOT}/{DEFINITIONS}", made.stdout)
 
 
-def run(words: Words, given: bytes = b"", limit: float = LIMIT, **more: Any) -> Answer:
+def run(words: Words, given: bytes = b"", limit: float | None = LIMIT, **more: Any) -> Answer:
     """Runs the program that these words begin with on the bytes given."""
     ran = subprocess.run(words, input=given, capture_output=True, timeout=limit, check=False, **more)
     return Answer(ran.stdout, ran.stderr, ran.returncode)
@@ -232,23 +191,6 @@ def write(path: str | bytes, text: str | bytes) -> None:
     """Makes a file."""
     with open(path, "wb") as file:
         file.write(text if isinstance(text, bytes) else text.encode())
-
-
-def has_proc(tally: Tally, what: str) -> bool:
-    """Whether the system has /proc. What needs it, by itself or by bash's <(..), is left out without it."""
-    found = os.path.exists("/proc/self/fd")
-    if not found:
-        tally.pass_over(what, "/proc")
-    return found
-
-
-def terminal(tally: Tally, what: str) -> tuple[int, int] | None:
-    """Returns both ends of a terminal. Where the system has none, as without /dev/pts, what needs it is left out."""
-    try:
-        return os.openpty()
-    except OSError:
-        tally.pass_over(what, "a terminal (/dev/pts)")
-        return None
 
 
 def python_with(*modules: str) -> str | None:

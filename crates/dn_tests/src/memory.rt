@@ -71,7 +71,7 @@ fn are_right(alloc: Global, text: &[u8], canon: &[u8]) -> bool {
     true
 }
 
-// Standard input contains a text, a byte 0, and the canonical text in form 2; or nothing. `tests/memory` refuses each
+// Standard input contains a text, a byte 0, and the canonical text in form 2; or nothing. `test_memory.py` refuses each
 // allocation of this test in turn.
 #[test]
 fn a_refused_growth(rt: HostRuntime) {

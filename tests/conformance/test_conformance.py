@@ -1,0 +1,454 @@
+"""The conformance suite in share/conformance: its generated files are up to date; the program passes also the cases
+from which its cases were chosen; the cases find every mistake of mistakes.txt, planted into reading.py; docs/FORMAT.md
+names the cases of each rule, and sentences.txt those of each sentence; what each level of run.py compares, and what it
+does with readers that fail; and reader.cc, a reader in C++, passes, and fails with the mistakes of
+reader-mistakes.txt."""
+
+import importlib
+import json
+import os
+import re
+import shlex
+import shutil
+import stat
+import sys
+import time
+from collections import Counter
+from xml.etree import ElementTree
+
+import mistakes
+import pytest
+import sentences
+from needs import leave_out, need
+from rules import RULES
+from shared import LIMIT, ROOT, Answer, bytes_of, listed, run, said, text_of, write
+from suite import FOLDER, VERSION, Suite, anchor, cases_json, generated, ids
+
+sys.path.append(f"{ROOT}/tools")
+# The tools' folder must be on the path before this import.
+from pages import anchors  # noqa: E402
+
+pytestmark = pytest.mark.whole
+RUN, FORMAT = f"{FOLDER}/run.py", "docs/FORMAT.md"
+# The least number of planted mistakes, the greatest number of cases, and the least share of the mistakes that a line of
+# any type can have, planted into each type, that cases find.
+LEAST, MOST, SHARE = 500, 2500, 0.98
+# What follows "Cases:" in FORMAT.md: names, or a range of names.
+NAMED = re.compile(r"\*[Cc]ases\b[^`]*((?:`[\w-]+`(?: to |, and |, )?)+)")
+RANGE = re.compile(r"`refusal-(\d+)` to `refusal-(\d+)`")
+# Readers in sh, made of the program P: what each does, the level that it passes, and the rules with which it is tried.
+READERS = [
+    ("refuses without a line", '[ "$1" = check ] && exec "$P" "$@" 2> /dev/null', "accept"),
+    ("names no refusal", 't=$("$P" "$@" 2>&1) && echo "$t" || { echo "${t%% *} fault" >&2; exit 2; }', "line"),
+    ("has no canonical texts", '[ "$1" = check ] && exec "$P" "$@"', "refusal"),
+    ("does not compare", 'case "$*" in compare* | *--with*) ;; *) exec "$P" "$@" ;; esac', "canon"),
+    ("warns before a refusal", 'echo "reading" >&2; exec "$P" "$@"', "compare"),
+    ("tells more", '"$P" "$@" && { [ "$1" != check ] || echo more; }', "compare"),
+]
+TRIED = ["form", "refusal-4", "differ", "fit"]
+# The rules with which the reader in C++ is called once for each text, which depend most on how a text arrives.
+ARRIVING = ["first", "ninth", "line-end", "line-number", "long"]
+# Readers that fail, in sh, with a part of what run.py prints.
+FAILING = [
+    ("does nothing", "exit 0", "first-min: a `min` text with a supply and a demand"),
+    ("does nothing", "exit 0", " printed '', status 0; expected 'accepted min' and status 0"),
+    ("ends by a signal", "kill -9 $$", " printed '', ended by signal 9; expected"),
+    ("does not end", "exec sleep 60", "10 calls did not end within 0.3 seconds, and the other cases are not tried"),
+    ("leaves a process that does not end", "sleep 60 & exit 0", "10 calls did not end within 0.3 seconds"),
+    (
+        "closes its streams and does not end",
+        "exec sleep 60 > /dev/null 2>&1",
+        "10 calls did not end within 0.3 seconds",
+    ),
+    ("prints without end", "exec yes accepted min", "and was ended: it printed too much; expected"),
+    ("refuses everything", 'echo "-:1: 1 BadLine" >&2; exit 2', "-:1: 1 BadLine\\n', status 2; expected"),
+    ("writes before a refusal", 'echo p; exec "$P" "$@"', "expected 'accepted min' and status 0"),
+    ("has another status", '"$P" "$@" || exit 1', "status 1; expected '-:3: 15 SameTerminal' and status 2"),
+]
+# Readers in sh that fail with --batch, with a part of what run.py prints.
+BATCHES = [
+    ("read line; exit 7", "check printed '', status 7; expected"),
+    ("while read line; do echo yes; done", "check printed 'yes\\n', status 2; expected"),
+    ("exec sleep 60", "check printed '', with no end; expected"),
+    ("exit 0", "check printed '', status 1; expected"),
+]
+# Wrong command lines, and a part of what is said of them.
+WRONG: list[tuple[list[str], str]] = [
+    ([], "COMMAND is missing"),
+    (["--level", "all", "true"], "invalid choice: 'all'"),
+    (["--rule", "all", "true"], "invalid choice: 'all'"),
+    (["--kind", "all", "true"], "invalid choice: 'all'"),
+    (["--limit", "0", "true"], "invalid positive value: '0'"),
+    (["--limit", "inf", "true"], "invalid positive value: 'inf'"),
+    (["--jobs", "0", "true"], "--jobs is at least 1"),
+    (["--case", "first-mi", "true"], "no case has the id 'first-mi'"),
+    (["--refused", "0", "true"], "invalid status value: '0'"),
+    (["--refused", "256", "true"], "invalid status value: '256'"),
+    (["--memory", "0", "true"], "--memory is at least 1"),
+    (["--expect", "/nowhere/list", "true"], "/nowhere/list: No such file or directory"),
+    (["--tap", "--json", "true"], "--json: not allowed with argument --tap"),
+    (["--pieces", "0", "true"], "invalid sizes value: '0'"),
+    (["--pieces", "1,", "true"], "invalid sizes value: '1,'"),
+    (["--lev", "accept", "true"], "unrecognized arguments: --lev"),
+    (["/nowhere/reader"], "/nowhere/reader: No such file or directory"),
+    (["/etc/passwd"], "/etc/passwd: Permission denied"),
+]
+
+
+CASES = [
+    {**it, "rule": rule["rule"]}
+    for rule in json.loads(text_of(f"{FOLDER}/cases.json"))["rules"]
+    for it in rule["cases"]
+]
+MISTAKES = [*mistakes.listed(f"{ROOT}/tests/conformance/reader-mistakes.txt")]
+GENERATED = pytest.mark.xdist_group("generated")
+
+
+# Readers that use other statuses, or time: what each does, in sh, the words of run.py, and its status.
+OTHER = '"$P" "$@" || exit 255'
+PLAIN = 't=$(cat; echo x); case "$t" in *+*) exit 2;; esac; printf %s "${t%x}" | "$P" "$@"'
+LIMITED = [
+    ("another status", OTHER, "--rule refusal-8 --refused 255", 0),
+    ("any status", OTHER, "--rule refusal-8 --refused any", 0),
+    ("no refusal", '"$P" "$@" || exit 0', "--level accept --rule refusal-8 --refused any", 1),
+    ("a choice of FORMAT.md, level challenge", PLAIN, "--rule number --level challenge", 0),
+    ("a choice of FORMAT.md", PLAIN, "--rule number --level accept", 1),
+    ("a call that sleeps", 'sleep 0.6; exec "$P" "$@"', "--case first-min --limit 0.3", 0),
+    ("a call that does not sleep", "while :; do :; done", "--case first-min --limit 0.3", 1),
+]
+
+
+class Conformance:
+    """The program and a folder."""
+
+    def __init__(self, tested: str, folder: str) -> None:
+        self.tested, self.folder = tested, folder
+
+    def run(self, *words: str, script: str = RUN) -> Answer:
+        return run([sys.executable, script, *words], limit=5 * LIMIT, cwd=self.folder)
+
+    def reader(self, script: str) -> str:
+        """Returns the path of a reader in sh."""
+        path = f"{self.folder}/reader.sh"
+        write(path, f"#!/bin/sh\nP={shlex.quote(self.tested)}\n{script}\n")
+        os.chmod(path, 0o755)
+        return path
+
+
+@pytest.fixture
+def made(tested: str, folder: str) -> Conformance:
+    return Conformance(tested, folder)
+
+
+@pytest.fixture(scope="module")
+def suite() -> Suite:
+    """What the files are generated from. It takes a minute, so one process makes it."""
+    return Suite()
+
+
+def ids_of(rule: str) -> list[str]:
+    """Returns the ids of the cases of a rule."""
+    return [it["id"] for it in CASES if it["rule"] == rule]
+
+
+@GENERATED
+def test_up_to_date(suite: Suite) -> None:
+    changed = [os.path.relpath(path, ROOT) for path, text in generated(suite) if text_of(path) != text]
+    assert changed == [], "tools/conformance-cases --write makes them"
+
+
+@GENERATED
+def test_mistakes_found(suite: Suite) -> None:
+    """Cases find every mistake, and nearly all by line type."""
+    assert [mistake.what for mistake, count in zip(suite.mistakes, suite.counts()) if not count] == []
+    assert LEAST <= len(suite.mistakes)
+    missing = sum(map(len, suite.missing().values()))
+    assert missing <= (1 - SHARE) * suite.planted(), "mistakes by line type that no case finds"
+
+
+@GENERATED
+def test_cases(suite: Suite) -> None:
+    assert len(suite.entries) <= MOST
+    assert [it for it, count in Counter(it.id for it in suite.all).items() if count > 1] == [], "cases of one name"
+    assert sorted({*RULES} - {it.case.rule for it in suite.entries}) == [], "rules without cases"
+
+
+@GENERATED
+def test_ids_kept(suite: Suite) -> None:
+    """An id is not given to another text."""
+    first, *others = suite.entries
+    ids([first, *others])
+    changed = first._replace(case=first.case._replace(text="p sp 7 0\n"))
+    with pytest.raises(ValueError, match=f"^{first.id}:"):
+        ids([changed, *others])
+
+
+def test_schema() -> None:
+    """Cases.json is as its schema says, and that the schema refuses a case without an answer."""
+    try:
+        jsonschema = importlib.import_module("jsonschema")
+    except ImportError:
+        leave_out("python3-jsonschema")
+    validator = jsonschema.Draft202012Validator(json.loads(text_of(f"{FOLDER}/schema.json")))
+    made = json.loads(text_of(f"{FOLDER}/cases.json"))
+    assert [it.message for it in validator.iter_errors(made)][:5] == [], "faults of cases.json by its schema"
+    del made["rules"][0]["cases"][0]["canon"]
+    assert not validator.is_valid(made), "a case without an answer"
+
+
+@GENERATED
+def test_cases_not_chosen(suite: Suite, made: Conformance) -> None:
+    """The program has the answers of tests/reading.py also in the cases that were not chosen for the suite,
+    which a copy of the folder has."""
+    copy = f"{made.folder}/copy"
+    os.mkdir(copy)
+    shutil.copy(RUN, copy)
+    found = made.run(made.tested, script=f"{copy}/run.py")
+    assert (found.status, b"cases.json: " in found.err) == (3, True), "without cases.json"
+    chosen = {it.id for it in suite.entries}
+    others = [it for it in suite.all if it.id not in chosen]
+    write(f"{copy}/cases.json", cases_json(others))
+    found = made.run("--level", "compare", made.tested, script=f"{copy}/run.py")
+    wanted = f"{len(others)} cases pass, 0 fail (level compare)\n"
+    assert found == Answer(wanted.encode(), b"", 0), "the program, cases that were not chosen"
+
+
+def test_rules_named() -> None:
+    """Docs/FORMAT.md names the cases of each rule below the heading of the rule."""
+    headings = {rule.heading for rule in RULES.values()}
+    known = anchors(FORMAT, ROOT)
+    assert sorted(it for it in headings if anchor(it) not in known) == [], "headings of rules"
+    parts = re.split(r"^## ", text_of(f"{ROOT}/{FORMAT}"), flags=re.M)[1:]
+    for heading, _, section in (it.partition("\n") for it in parts):
+        # Headings of the third level have rules of their own.
+        for own, _, text in [(heading, "", ""), *(it.partition("\n") for it in section.split("### ")[1:])]:
+            told = text if text else section.split("### ")[0]
+            found = {name for it in NAMED.findall(told) for name in re.findall(r"`([\w-]+)`", it)}
+            for low, high in RANGE.findall(told):
+                found |= {f"refusal-{it}" for it in range(int(low), int(high) + 1)}
+            wanted = {name for name, rule in RULES.items() if rule.heading == own}
+            assert sorted(found) == sorted(wanted), f"cases in {FORMAT}, {own}"
+
+
+def test_sentences() -> None:
+    """Sentences.txt has one line for each sentence of docs/FORMAT.md, and names cases that exist."""
+    found, lines = [*sentences.sentences()], [*sentences.listed()]
+    for it in found:
+        own = [begin for begin, _ in lines if it.startswith(begin)]
+        assert len(own) == 1, f"lines of sentences.txt for {it!r}"
+    for begin, _ in lines:
+        assert sum(it.startswith(begin) for it in found) == 1, f"sentences of {FORMAT} for {begin!r}"
+    unknown = {it for _, ids in lines for it in ids} - {it["id"] for it in CASES}
+    assert sorted(unknown) == [], "cases of sentences.txt that do not exist"
+
+
+@pytest.mark.parametrize("what, script, passed", READERS, ids=[it[0] for it in READERS])
+def test_levels(made: Conformance, what: str, script: str, passed: str) -> None:
+    """What each level compares, on readers that pass one level and fail the next one."""
+    rules = [word for it in TRIED for word in ("--rule", it)]
+    order = ["accept", "line", "refusal", "canon", "compare"]
+    for level in order[order.index(passed) :][:2]:
+        found = made.run("--level", level, *rules, made.reader(script))
+        assert found.status == (0 if level == passed else 1), level
+
+
+def test_parts(made: Conformance) -> None:
+    """The kinds and the accepted texts are parts of the cases."""
+    counts = []
+    for words in ["", "--accepted", "--kind sp", "--kind sp --kind max"]:
+        found = made.run("--level", "accept", "--rule", "pair", "--rule", "keyword", *words.split(), "--", made.tested)
+        assert found.out.endswith(b" cases pass, 0 fail (level accept)\n")
+        counts.append(int(found.out.split()[0]))
+    assert 0 < counts[2] < counts[3] < counts[0] and 0 < counts[1] < counts[0]
+
+
+def test_by_text(made: Conformance) -> None:
+    """The adapter for programs that write what they have read, with one that writes canonical texts."""
+    os.symlink(made.tested, f"{made.folder}/dnorm")
+    path = f"{made.folder}:{os.environ['PATH']}"
+    adapter = f"{FOLDER}/adapters/by-text"
+    for words in ["--level accept --rule byte --rule refusal-13", "--accepted --rule form --rule point --rule list"]:
+        command = [sys.executable, RUN, *words.split(), adapter, "dnorm canon -"]
+        found = run(command, env={**os.environ, "PATH": path})
+        assert (found.err, found.status) == (b"", 0), f"by-text {words}: {found}"
+    for ending in ["exit 1", "exit 129", "exit 137", "exit 142", "exit 255", "kill -ALRM $$", "kill -KILL $$"]:
+        found = run([adapter, made.reader(ending), "check", "-"])
+        signals = {"kill -ALRM $$": -14, "kill -KILL $$": -9}
+        assert found == Answer(b"", b"", signals.get(ending, 2)), f"by-text, {ending}"
+    found = run([sys.executable, RUN, adapter, "cat"], env={**os.environ, "PATH": "/usr/bin:/bin"})
+    told = f"run.py: {adapter} cannot work: by-text: dnorm is not on PATH\n"
+    if not shutil.which("dnorm", path="/usr/bin:/bin"):
+        assert (found.out, found.err.decode(), found.status) == (b"", told, 3), "by-text without dnorm"
+
+
+@pytest.mark.parametrize("what, script, part", FAILING)
+def test_failing(made: Conformance, what: str, script: str, part: str) -> None:
+    """What run.py prints for readers that fail, and that it ends them."""
+    begun = time.monotonic()
+    found = made.run("--rule", "first", "--rule", "terminal", "--limit", "0.3", made.reader(script))
+    assert time.monotonic() - begun < 20
+    assert part.encode() in found.out
+    assert (found.err, found.status) == (b"", 1)
+
+
+@pytest.mark.parametrize("words, part", WRONG, ids=[" ".join(it[0]) for it in WRONG])
+def test_wrong_words(made: Conformance, words: list[str], part: str) -> None:
+    found = made.run(*words)
+    assert (found.out, found.status) == (b"", 3) and part.encode() in found.err
+
+
+def test_help(made: Conformance) -> None:
+    assert made.run("--help").out.startswith(b"usage: run.py [OPTION].. COMMAND..")
+
+
+def test_all(made: Conformance) -> None:
+    found = made.run("--rule", "refusal-8", "--all", made.reader('[ "$1" = check ] && echo accepted sp'))
+    told = {it.split(b":")[0].strip().decode() for it in found.out.splitlines()}
+    assert {*ids_of("refusal-8")} - told == set()
+
+
+def test_known_failures(made: Conformance) -> None:
+    """A case that is expected to fail fails nothing, that a new failure does, and that one that passes now
+    is told."""
+    reader = made.reader('[ "$1" = check ] && exec "$P" "$@"; exit 2')
+    words = ["--case", "first-min", "--case", "first-max", "--expect", f"{made.folder}/expected"]
+    for names, status, end in [
+        ("first-min # a reason\nfirst-max\n", 0, "0 cases pass, 0 fail, 2 fail as expected (level canon)\n"),
+        ("# nothing\nfirst-min\n", 1, "0 cases pass, 1 fail, 1 fail as expected (level canon)\n"),
+    ]:
+        write(f"{made.folder}/expected", names)
+        found = made.run(*words, reader)
+        assert (found.out.decode().endswith(end), found.status) == (True, status), f"--expect {names!r}: {found}"
+    write(f"{made.folder}/expected", "first-min\nfirst-max\n")
+    for shape, part in [
+        ("--tap", "not ok 1 - first-min # TODO known to fail\n"),
+        ("--junit", '<skipped message="known'),
+    ]:
+        found = made.run(shape, *words, reader)
+        assert (part in found.out.decode(), found.status) == (True, 0), f"{shape} of known failures: {found}"
+    write(f"{made.folder}/expected", "first-min\n")
+    found = made.run(*words, made.tested)
+    told = "    passes now, and should no longer be expected to fail\n1 cases pass, 1 fail, 0 fail as expected"
+    assert (told in found.out.decode(), found.status) == (True, 1), f"a case that passes now: {found}"
+    write(f"{made.folder}/expected", "first-min\nfirst-one\n")
+    found = made.run(*words, made.tested)
+    assert b"expected:2: no case has the id 'first-one'" in found.err, f"an id of no case: {found}"
+
+
+def test_shapes(made: Conformance) -> None:
+    """The results for other programs, and the files of cases."""
+    words = ["--rule", "form", made.reader('case "$*" in *"form 2"*) set -- canon -;; esac; exec "$P" "$@"')]
+    ids = ids_of("form")
+    text = made.run("--all", *words).out.decode()
+    bad = [it for it in ids if f"\n  {it}: " in text]
+    assert 0 < len(bad) < len(ids), f"cases that fail and cases that pass: {len(bad)} of {len(ids)}"
+    tap = made.run("--tap", *words).out.decode().splitlines()
+    assert tap[:2] == ["TAP version 13", f"1..{len(ids)}"], "--tap"
+    assert [it.split(" - ")[1] for it in tap if it.startswith("not ok ")] == bad, "--tap, results"
+    assert sum(it.startswith(("ok ", "not ok ")) for it in tap) == len(ids), "--tap, all results"
+    tree = ElementTree.fromstring(made.run("--junit", *words).out)
+    failed = [it.get("name") for it in tree if it.find("failure") is not None]
+    assert (tree.get("tests"), tree.get("failures"), failed) == (str(len(ids)), str(len(bad)), bad), "--junit"
+    cases = json.loads(made.run("--json", *words).out)["cases"]
+    found = [it["id"] for it in cases if it["outcome"] == "fails" and it["failures"]]
+    assert (len(cases), found) == (len(ids), bad), "--json"
+    written = f"{made.folder}/texts"
+    assert made.run("--rule", "form", "--rule", "fit", "--write", written) == said(), "--write"
+    for case in (it for it in CASES if it["rule"] in ("form", "fit")):
+        own = {name: case[name] for name in ("text", "with") if name in case}
+        files = {name: bytes_of(f"{written}/{case['id']}.{name}").decode("latin-1") for name in own}
+        assert files == own, f"--write, {case['id']}"
+    assert made.run("--version").out.decode() == f"cases {VERSION}\n", "--version"
+
+
+def test_messages(made: Conformance) -> None:
+    """A text of a message gives its bytes back in a shell, that the first line that differs is told, and
+    that the rule with the greatest share of failures comes first."""
+    for name, text in [("byte-sp-a-between-a0", b"a 20 30\xa0-14\n"), ("comment-ends-in-percent", b"a 1 2 7 % x\n")]:
+        found = made.run("--level", "accept", "--case", name, made.reader("exit 0")).out.decode()
+        printed = run(["sh", "-c", re.findall("text: (printf .*)", found)[0]]).out
+        assert printed.endswith(text), f"the text of {name}: {found}"
+    reader = made.reader('[ "$1" = check ] && exec "$P" "$@"; "$P" "$@" | sed "s/2 3 5/2 3 6/"')
+    found = made.run("--case", "first-max", reader).out.decode()
+    told = "; line 5 is 'a 2 3 6' in place of 'a 2 3 5'"
+    assert found.count(told) == 2, f"the line that differs in both forms: {found}"
+    reader = made.reader('[ "$1 $3" = "canon 2" ] && set -- canon -; exec "$P" "$@"')
+    found = made.run("--rule", "range", "--rule", "form", reader).out.decode()
+    heads = [it.partition(":")[0] for it in found.splitlines()[:-1] if not it.startswith(" ")]
+    assert heads == ["form", "range"], "the rules of a mistake in form 2"
+
+
+@pytest.mark.parametrize("what, script, words, status", LIMITED, ids=[it[0] for it in LIMITED])
+def test_limits(made: Conformance, what: str, script: str, words: str, status: int) -> None:
+    """Statuses of refusals, the level that only the Challenges decide, and the limit of time."""
+    found = made.run(*words.split(), made.reader(script))
+    assert (found.err, found.status) == (b"", status)
+
+
+def test_slow_case(made: Conformance) -> None:
+    found = made.run("--case", "first-min", "--limit", "0.3", made.reader('sleep 0.2; exec "$P" "$@"'))
+    told = rb"1 cases took more than 0.15 seconds, the longest \d+\.\d seconds: first-min\n"
+    assert re.match(told, found.out)
+
+
+def test_memory(made: Conformance) -> None:
+    found = made.run("--case", "first-min", "--memory", "123", made.reader("ulimit -v"))
+    assert f"printed '{123 * 1024}\\n'".encode() in found.out
+
+
+def test_by_module(made: Conformance) -> None:
+    """`python3 -m dnorm conformance`, and that the suite is installed as it is here."""
+    environment = {**os.environ, "PYTHONPATH": f"{ROOT}/python/src", "PYTHONDONTWRITEBYTECODE": "1"}
+    passing = f"{len(ids_of('first'))} cases pass, 0 fail (level compare)\n"
+    words = ["--level", "compare", "--rule", "first", made.tested]
+    runs: list[tuple[list[str], str, int]] = [(words, passing, 0), ([], "", 3)]
+    for words, out, status in runs:
+        found = run([sys.executable, "-m", "dnorm", "conformance", *words], cwd=made.folder, env=environment)
+        assert (found.out.decode(), found.status) == (out, status), f"conformance {words}: {found}"
+    below = [f"{at}/{it}" for at, _, names in os.walk(FOLDER) for it in names if not it.endswith(".pyc")]
+    own = {os.path.relpath(it, FOLDER): stat.S_IMODE(os.stat(it).st_mode) & 0o111 > 0 for it in below}
+    top = "share/conformance/"
+    known = {it.removeprefix(top): mode == 0o755 for mode, it, to in listed() if it.startswith(top)}
+    assert known == own, "what is installed of share/conformance"
+
+
+def compiled(source: str) -> None:
+    """Compiles the reader in C++ in this folder."""
+    need("c++")
+    write("reader.cc", source)
+    words = ["c++", "-std=c++17", "-O1", "-Wall", "-Wextra", "-o", "reader", "reader.cc"]
+    assert run(words, limit=5 * LIMIT) == said()
+
+
+@pytest.mark.parametrize("mistake", [None, *MISTAKES], ids=lambda it: it.what if it else "no mistake")
+def test_in_cpp(made: Conformance, mistake: mistakes.Mistake | None) -> None:
+    """The reader in C++, as it is and with each of its mistakes: the rules that the mistake names fail."""
+    source = text_of(f"{ROOT}/tests/conformance/reader.cc")
+    compiled(mistakes.planted(source, mistake) if mistake else source)
+    rules = mistake.rules if mistake else ARRIVING
+    found = made.run(*[word for it in rules for word in ("--rule", it)], "./reader")
+    failed = {it.split(b":")[0].decode() for it in found.out.splitlines() if not it.startswith(b" ")} & RULES.keys()
+    assert (found.status, failed) == ((1, {*rules}) if mistake else (0, set[str]()))
+
+
+def test_batch(made: Conformance) -> None:
+    """The reader in C++ passes with --batch."""
+    compiled(text_of(f"{ROOT}/tests/conformance/reader.cc"))
+    found = made.run("--batch", "./reader", "batch")
+    count = sum("with" not in it and "right" not in it for it in CASES)
+    # A line on slow cases may stand before the last one.
+    last = found.out.decode().splitlines()[-1:]
+    assert (last, found.err, found.status) == ([f"{count} cases pass, 0 fail (level canon)"], b"", 0)
+
+
+@pytest.mark.parametrize("script, told", BATCHES)
+def test_failing_batch(made: Conformance, script: str, told: str) -> None:
+    """What is told of readers that end or answer nothing."""
+    found = made.run("--batch", "--limit", "0.1", "--case", "first-min", "--case", "first-max", made.reader(script))
+    assert (found.err, found.status, found.out.decode().count(told)) == (b"", 1, 2)
+
+
+def test_library_readers() -> None:
+    """Readers.txt names only cases that exist."""
+    told = re.findall(r"^    (\S+)$", text_of(f"{FOLDER}/readers.txt"), re.M)
+    assert sorted({*told} - {it["id"] for it in CASES}) == [], "cases of readers.txt that do not exist"

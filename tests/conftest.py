@@ -1,0 +1,110 @@
+"""The options of the tests, and what all of them share: the program under test, folders, and what runs beside what."""
+
+import fcntl
+import os
+import signal
+import sys
+from collections.abc import Iterator
+from typing import TextIO
+
+import pytest
+from needs import leave_out
+from shared import ENDING, ROOT, Quick, exit_by, program_at, run
+
+# The package for Python, and the cases of the conformance suite, which some tests import.
+sys.path[:0] = [f"{ROOT}/python/src", f"{ROOT}/tests/conformance"]
+PREFIX = f"{ROOT}/c/out"
+LIBRARY = f"{PREFIX}/lib/libdnorm.so.2"
+# The file that a test locks while it runs.
+LOCK = pytest.StashKey[TextIO]()
+
+
+def pytest_addoption(parser: pytest.Parser) -> None:
+    parser.addoption("--program", help="the program that is tested, by default what tools/program names")
+    parser.addoption("--quick", action="store_true", help="run the tests that find most wrong answers in a short time")
+
+
+def pytest_configure(config: pytest.Config) -> None:
+    for it in ["whole: a quick run leaves this test out", "alone: nothing runs beside this test, which measures times"]:
+        config.addinivalue_line("markers", it)
+
+
+def pytest_collection_modifyitems(config: pytest.Config, items: list[pytest.Item]) -> None:
+    """Leaves out what a quick run does not do, and moves what runs alone to the end."""
+    if config.getoption("--quick"):
+        config.hook.pytest_deselected(items=[it for it in items if it.get_closest_marker("whole")])
+        items[:] = [it for it in items if not it.get_closest_marker("whole")]
+    items.sort(key=lambda it: it.get_closest_marker("alone") is not None)
+
+
+def pytest_runtest_setup(item: pytest.Item) -> None:
+    """Lets nothing run beside a test that measures times, in any process of this clone."""
+    os.makedirs(f"{ROOT}/out", exist_ok=True)
+    item.stash[LOCK] = open(f"{ROOT}/out/tests-lock", "w", encoding="ascii")
+    fcntl.flock(item.stash[LOCK], fcntl.LOCK_EX if item.get_closest_marker("alone") else fcntl.LOCK_SH)
+
+
+def pytest_runtest_teardown(item: pytest.Item) -> None:
+    item.stash[LOCK].close()
+
+
+@pytest.fixture(scope="session")
+def tested(request: pytest.FixtureRequest) -> str:
+    """The path of the program under test."""
+    return program_at(request.config.getoption("--program"))
+
+
+@pytest.fixture(scope="session")
+def quick(request: pytest.FixtureRequest) -> bool:
+    """Whether the test is to take less time."""
+    return bool(request.config.getoption("--quick"))
+
+
+@pytest.fixture(scope="session")
+def often(tested: str) -> Quick:
+    """The program under test, run many times at little cost."""
+    return Quick(tested)
+
+
+@pytest.fixture(scope="session")
+def c_library() -> str:
+    """The prefix below which the library for C is, which tests/run has built first."""
+    status = os.environ.get("DNORM_C_LIBRARY") or str(run([f"{ROOT}/tools/c-library"], limit=None).status)
+    if status == "125":
+        leave_out("the kit")
+    assert status == "0", "tools/c-library does not build the library"
+    return PREFIX
+
+
+@pytest.fixture
+def folder(tmp_path: os.PathLike[str], monkeypatch: pytest.MonkeyPatch) -> str:
+    """A new folder, in which the test runs."""
+    monkeypatch.chdir(tmp_path)
+    return str(tmp_path)
+
+
+@pytest.fixture
+def heeded() -> Iterator[None]:
+    """Lets the programs that the test starts heed signals, even if this process ignores them, as by nohup."""
+    kept = {it: signal.signal(it, exit_by) for it in ENDING}
+    yield
+    for it, handler in kept.items():
+        signal.signal(it, handler)
+
+
+@pytest.fixture
+def reader(
+    request: pytest.FixtureRequest, tested: str, folder: str, heeded: None, monkeypatch: pytest.MonkeyPatch
+) -> Iterator[str]:
+    """How the package for Python reads instances in a test: by the program under test, where this Python seems to lack
+    numpy; by the library for C, where it does, too; or by the program, where it has numpy."""
+    how: str = getattr(request, "param", "program")
+    if how == "library" and not os.path.exists(LIBRARY):
+        leave_out("the library (tools/c-library builds it)")
+    if how != "numpy":
+        monkeypatch.setitem(vars(sys)["modules"], "numpy", None)
+    kept = dict(os.environ)
+    os.environ.update(DNORM=tested, DNORM_LIBRARY=LIBRARY if how == "library" else "none")
+    yield how
+    os.environ.clear()
+    os.environ.update(kept)

@@ -1,0 +1,133 @@
+"""How programs find the library for C: by CMake, and by the crates for Rust in share/rust, which declare what dnorm.h
+does."""
+
+import os
+import re
+import shutil
+
+import pytest
+from builds import GIVEN, PROJECT, by_cmake, need_cmake, refusal_lines, version_of
+from known import CANONICAL, FLOWS
+from needs import need, pass_over
+from shared import ROOT, run, said, text_of, write
+
+pytestmark = pytest.mark.whole
+CRATES = f"{ROOT}/share/rust"
+# What dnorm.h and the crate dnorm-sys declare.
+CONSTANT = re.compile(r"\b(DNORM_[A-Z0-9_]+) = (\d+)")
+RUST_CONSTANT = re.compile(r"^pub const (DNORM_\w+): \w+ = (\d+);$", re.M)
+DECLARED = re.compile(r"^\w+ (dnorm_\w+)\((.*?)\);$", re.M | re.S)
+RUST_DECLARED = re.compile(r"^    pub fn (dnorm_\w+)\((.*?)\)\s*(?:-> \w+)?;$", re.M | re.S)
+MEMBERS = re.compile(r"^typedef struct \w+ \{\n(.*?)^\} (\w+);$", re.M | re.S)
+RUST_MEMBERS = re.compile(r"^pub struct (\w+) \{\n(.*?)^\}$", re.M | re.S)
+# How Rust names the types of C.
+TYPES = {"uint8_t": "u8", "uint32_t": "u32", "uint64_t": "u64", "int64_t": "i64", "bool": "bool", "size_t": "usize"}
+MEMCHECK = ["valgrind", "-q", "--error-exitcode=9", "--leak-check=full", "--errors-for-leak-kinds=definite"]
+
+# Versions that a project asks for, where the library's is MAJOR.MINOR.x, by whether CMake finds them.
+ASKED = {
+    "{0}.{1}.{2}": True,
+    "{0}.0": True,
+    "{0}.{1}.{2} EXACT": True,
+    "{3}.0": False,
+    "{0}.{4}": False,
+    "{0}.999 EXACT": False,
+}
+
+
+def test_cmake(c_library: str, folder: str) -> None:
+    by_cmake(folder, c_library)
+
+
+@pytest.mark.parametrize("asked, is_found", ASKED.items())
+def test_version_by_cmake(tested: str, c_library: str, folder: str, asked: str, is_found: bool) -> None:
+    """CMake finds no later version than this one."""
+    need_cmake()
+    first, second, third = map(int, version_of(tested).partition("-")[0].split("."))
+    write("CMakeLists.txt", PROJECT.format(version=asked.format(first, second, third, first + 1, second + 1)))
+    shutil.copy(f"{ROOT}/tests/library/library.cc", "library.cc")
+    ran = run(["cmake", "-S", folder, "-B", f"{folder}/build", f"-DCMAKE_PREFIX_PATH={c_library}"])
+    assert (ran.status == 0) == is_found, ran.err.decode()
+
+
+def test_crate_declares() -> None:
+    """The crate dnorm-sys declares the constants, structs and functions of dnorm.h."""
+    header, crate = text_of(f"{ROOT}/c/dnorm.h"), text_of(f"{CRATES}/dnorm-sys/src/lib.rs")
+    wanted = dict(CONSTANT.findall(header)) | {"DNORM_ABI": re.findall(r"DNORM_ABI (\d+)$", header, re.M)[0]}
+    assert dict(RUST_CONSTANT.findall(crate)) == wanted, "constants of dnorm-sys"
+    counts = {name: words.count(",") + (words != "void") for name, words in DECLARED.findall(header)}
+    found = {name: len(re.findall(r"\w+: ", words)) for name, words in RUST_DECLARED.findall(crate)}
+    assert found == counts, "functions of dnorm-sys"
+    structs = {name: members_in_c(text) for text, name in MEMBERS.findall(header)}
+    found_structs = {name: re.findall(r"pub (\w+): (.+),", text) for name, text in RUST_MEMBERS.findall(crate)}
+    assert found_structs == structs, "structs of dnorm-sys"
+
+
+def members_in_c(text: str) -> list[tuple[str, str]]:
+    """Returns the members of a struct, with their types as Rust has them."""
+    found = []
+    for kind, names in re.findall(r"^    (void \*|\w+ )([\w, ]+);$", text, re.M):
+        by_name = kind.strip() if kind.startswith("dnorm_") else "*mut c_void"
+        found += [(it, TYPES.get(kind.strip(), by_name)) for it in names.split(", ")]
+    return found
+
+
+@pytest.mark.parametrize("name", ["dnorm", "dnorm-sys"])
+def test_version_of_crate(tested: str, name: str) -> None:
+    assert re.findall(r'^version = "(.*)"', text_of(f"{CRATES}/{name}/Cargo.toml"), re.M) == [version_of(tested)]
+
+
+@pytest.fixture(scope="module")
+def uses(c_library: str, tmp_path_factory: pytest.TempPathFactory) -> str:
+    """A program of library.rs and the crates, built by rustc alone."""
+    if not shutil.which("rustc"):
+        # tools/setup does not install Rust.
+        pass_over("rustc")
+    folder = str(tmp_path_factory.mktemp("rust"))
+    rustc = ["rustc", "--edition=2021", "-O", "-Dwarnings", "-L", folder, "--out-dir", folder]
+    native = ["-L", f"native={c_library}/lib", "-l", "static=dnorm", "--crate-name", "dnorm_sys"]
+    sys_crate, crate = f"dnorm_sys={folder}/libdnorm_sys.rlib", f"dnorm={folder}/libdnorm.rlib"
+    for words in [
+        ["--crate-type", "rlib", *native, f"{CRATES}/dnorm-sys/src/lib.rs"],
+        ["--crate-type", "rlib", "--crate-name", "dnorm", "--extern", sys_crate, f"{CRATES}/dnorm/src/lib.rs"],
+        ["--extern", crate, f"{ROOT}/tests/library/library.rs"],
+    ]:
+        assert run([*rustc, *words]) == said(), words
+    return f"{folder}/library"
+
+
+@pytest.mark.parametrize("text, forms", GIVEN, ids=[f"{it[0]!r:.60}" for it in GIVEN])
+def test_rust(uses: str, folder: str, text: bytes, forms: list[bytes]) -> None:
+    assert run([uses], text) == said(b"".join(forms))
+    write("text", text)
+    assert run([uses, "text"]) == said(forms[0]), "by a file"
+
+
+def test_refusals_in_rust(uses: str, tested: str) -> None:
+    for text, line in refusal_lines(tested).items():
+        assert run([uses], text) == said(b"", f"{line}\n", 2), text
+    assert run([uses, "/none"]) == said(b"", "No such file or directory (os error 2)\n", 4), "a missing file"
+
+
+@pytest.mark.parametrize("text", [FLOWS, b"p sp 1 1\nq\n"], ids=["accepted", "refused"])
+def test_memcheck_of_rust(uses: str, text: bytes) -> None:
+    need("valgrind")
+    assert run([*MEMCHECK, uses], text) == run([uses], text)
+
+
+@pytest.mark.parametrize("is_static", ["0", "1"])
+def test_cargo(c_library: str, folder: str, is_static: str) -> None:
+    """cargo builds a program that depends on the crate `dnorm`, from both libraries."""
+    if not shutil.which("cargo"):
+        pass_over("cargo")
+    for name in ["dnorm", "dnorm-sys"]:
+        shutil.copytree(f"{CRATES}/{name}", name)
+    os.makedirs("reads/src")
+    shutil.copy(f"{ROOT}/tests/library/library.rs", "reads/src/main.rs")
+    manifest = '[package]\nname = "reads"\nversion = "0.1.0"\nedition = "2021"\n\n[workspace]\n'
+    write("reads/Cargo.toml", f'{manifest}\n[dependencies]\ndnorm = {{ path = "../dnorm" }}\n')
+    own = {"DNORM_LIB": f"{c_library}/lib", "DNORM_STATIC": is_static, "LD_LIBRARY_PATH": f"{c_library}/lib"}
+    environment = {**os.environ, **own, "CARGO_TARGET_DIR": f"{folder}/target"}
+    assert run(["cargo", "build", "--quiet", "--offline"], cwd="reads", env=environment) == said()
+    text, *forms = CANONICAL[0]
+    assert run(["target/debug/reads"], text, env=environment) == said(b"".join(forms))

@@ -1,0 +1,376 @@
+"""The library for C in programs that use its headers: dnorm.h and dnorm_tools.h in C99 with the archive, and dnorm.hpp
+in C++17 with the shared library. The headers have the refusals and the version of the program.
+
+library.c tries orders of calls, failing allocations and threads, and counts what is not freed; library_tools.c uses the
+inline functions of dnorm_tools.h, and library.cc the classes. valgrind finds no fault in these. The headers compile
+without a warning in each standard, and beside R's macro `dnorm`."""
+
+import ctypes
+import os
+import re
+import shutil
+import subprocess
+
+import pytest
+from bound import ABI, FUNCTIONS, WRONG_CALL
+from builds import GIVEN, compiled, refusal_lines, sentences_of, version_of
+from known import CANONICAL, COSTS, FLOWS, ROADS, ROADS_CANON
+from needs import need, need_proc, pass_over
+from refusal_table import refusals
+from shared import ROOT, run, said, text_of, write
+
+pytestmark = [pytest.mark.whole, pytest.mark.usefixtures("folder")]
+CODE = re.compile(r"^    (DNORM_[A-Z_]+) = (\d+),?$", re.M)
+VERSION, INTERFACE = (re.compile(rf"^#define DNORM_{it} (\d+)$", re.M) for it in ("VERSION", "ABI"))
+DECLARED = re.compile(r"^\w+ (dnorm_\w+)\(", re.M)
+SOURCES = f"{ROOT}/tests/library"
+# valgrind, and how it says that it found something.
+CHECKERS = {
+    "memcheck": ["valgrind", "-q", "--error-exitcode=9", "--leak-check=full", "--show-leak-kinds=all"],
+    "helgrind": ["valgrind", "-q", "--error-exitcode=9", "--tool=helgrind"],
+}
+STRICT = ["-Wall", "-Wextra", "-pedantic-errors", "-Wconversion", "-Wshadow", "-Werror", "-fsyntax-only"]
+# Compilers with their standards, and the headers that compile in them.
+STANDARDS = {
+    "gcc": (["c99", "c11", "c17"], ["dnorm.h", "dnorm_tools.h"]),
+    "clang": (["c99", "c11", "c17"], ["dnorm.h", "dnorm_tools.h"]),
+    "g++": (["c++11", "c++14", "c++17", "c++20"], ["dnorm.h", "dnorm_tools.h", "dnorm.hpp"]),
+    "clang++": (["c++11", "c++14", "c++17", "c++20"], ["dnorm.h", "dnorm_tools.h", "dnorm.hpp"]),
+}
+# The standards that have what dnorm.hpp needs.
+FOR_CLASSES = ["c++17", "c++20"]
+# What Rmath.h does.
+RMATH = "#define dnorm dnorm4\ndouble dnorm(double, double, double, int);\n"
+# A program that uses a header, in C and C++; with the macro of R before and after it.
+USES = """
+static dnorm_handle graph = DNORM_NONE;
+static dnorm_place first = DNORM_FIRST;
+int main(void) {
+    dnorm_arc arc;
+    dnorm_free(NULL);
+    return dnorm_next(&graph, 1, &first, &arc, 1).code == DNORM_WRONG_CALL ? 0 : DNORM_VERSION;
+}
+"""
+# A part of another file of a program.
+OTHER = "int other(void);\nint other(void) {\n    return dnorm_code_name(1)[0];\n}\n"
+# Statements of C++, with what does not compile in them and what does; `text` is a std::string and `graph` a const
+# Instance.
+WRONG = {
+    "the arcs of a temporary": ("for (auto &it : {}.each_arc()) (void)it;", "Instance(text)", "graph"),
+    "the name of a file as a text": ("Instance it({});", '"roads.gr"', 'dnorm_cpp::Path("roads.gr")'),
+    "a change of a const instance": ("{};", "graph = Instance(text)", "graph.columns()"),
+    "a copy": ("Instance it({});", "graph", "text"),
+    "a handle without const": ("const dnorm_handle it = DNORM_NONE; {};", "dnorm_free(&it)", "dnorm_facts(&it)"),
+}
+# A plugin that uses the archive, and exports one function.
+PLUGIN = """
+#include <dnorm.h>
+int plugin_reads(const char *text, size_t length);
+int plugin_reads(const char *text, size_t length) {
+    dnorm graph = DNORM_NONE;
+    int code = dnorm_begin(&graph).code || dnorm_feed(&graph, (const uint8_t *)text, length).code;
+    code = code || dnorm_finish(&graph).code;
+    dnorm_free(&graph);
+    return !code;
+}
+"""
+# Texts, and the forward star and the columns of 32 bits that library_tools.c prints, in form 1 in ranges of 2.
+STARS = {
+    ROADS: ("0 1 4 5 \n2 3\n1 4\n2 0\n3 9\n1 -5\n", "1 2 3 0\n2 1 4\n2 2 0 0\n2 3 9\n3 1 -5 0\n", 0),
+    COSTS: ("0 5 5 \n2 1 1 1\n2 1 1 2\n2 0 2 0\n2 0 4 1\n2 0 1 3\n", "1 2 1 1\n1 2 1\n1 2 0 0\n1 2 0\n1 2 0 3\n", 0),
+    b"p sp 4 1\na 3 1 2147483648\n": (
+        "0 0 0 1 1 \n1 2147483648\n",
+        "3 1 2147483648: 41 TooWide: A number does not fit 32 bits.\n",
+        2,
+    ),
+    b"p sp 4 3\na 3 1 2147483647\na 4 1 -2147483648\na 4 2 -2147483649\n": (
+        "0 0 0 1 3 \n1 2147483647\n1 -2147483648\n2 -2147483649\n",
+        "3 1 2147483647 0\n4 1 -2147483648\n4 2 -2147483649: 41 TooWide: A number does not fit 32 bits.\n",
+        2,
+    ),
+    b"p max 0 0\n": ("end: 19 MissingTerminal: A max file has no source or no sink.\n",) * 2 + (2,),
+    b"p sp 0 0\n": ("0 \n", "", 0),
+    b"p aux sp ss 0\n": ("40 WrongCall: The handle is not for this call.\n",) * 2 + (2,),
+}
+
+
+# What library.c does: its arguments, what it prints, and what watches it.
+CALLS = [
+    ("orders 5", f"{11**5} orders\n", []),
+    ("orders 3", f"{11**3} orders\n", ["memcheck"]),
+    ("memory", "", ["memcheck"]),
+    ("threads", "kind 1 15 15 15 15\n", ["memcheck", "helgrind"]),
+    ("readers 100000", "0 wrong\n", []),
+    ("readers 200", "0 wrong\n", ["memcheck", "helgrind"]),
+    ("nulls", "right\n", ["memcheck"]),
+]
+# Headers, by compilers and standards, and what stands beside them.
+COMPILED = [
+    (compiler, standard, header)
+    for compiler, (standards, headers) in STANDARDS.items()
+    for header in headers
+    for standard in (FOR_CLASSES if header == "dnorm.hpp" else standards)
+]
+
+
+def test_codes() -> None:
+    """dnorm.h has the codes of the table of refusals."""
+    codes = CODE.findall(header().partition("DNORM_FINE = 0,\n")[2].partition("};")[0])
+    wanted = [(it.constant, str(it.number)) for it in refusals() if it.constant]
+    assert codes == [*wanted, ("DNORM_WRONG_CALL", str(WRONG_CALL))]
+
+
+def header() -> str:
+    return text_of(f"{ROOT}/c/dnorm.h")
+
+
+def test_version(tested: str) -> None:
+    first, second, third = map(int, version_of(tested).partition("-")[0].split("."))
+    assert VERSION.findall(header()) == [str(10000 * first + 100 * second + third)]
+    assert INTERFACE.findall(header()) == [str(ABI)]
+
+
+def test_declared(c_library: str) -> None:
+    assert sorted(DECLARED.findall(header())) == sorted(f"dnorm_{it}" for it in FUNCTIONS)
+    files = sorted(it.name for it in os.scandir(f"{c_library}/lib") if it.is_file(follow_symlinks=False))
+    # `rt ci` refuses a repository with links in it.
+    assert files == ["libdnorm.a", "libdnorm.so", f"libdnorm.so.{ABI}"]
+
+
+def test_exported(c_library: str) -> None:
+    """The shared library exports only what dnorm.h declares, and needs the C library alone."""
+    need("nm", "readelf")
+    shared = f"{c_library}/lib/libdnorm.so.{ABI}"
+    rows = [it.split() for it in run(["nm", "-D", "--defined-only", shared]).out.decode().splitlines()]
+    exported = [it[2].partition("@@DNORM_") for it in rows if it[1] in "TDBR"]
+    assert sorted(it[0] for it in exported) == sorted(DECLARED.findall(header()))
+    assert all(re.fullmatch(r"\d+\.\d+", it[2]) for it in exported), "each by a release"
+    dynamic = run(["readelf", "-d", shared]).out.decode()
+    assert re.findall(r"NEEDED.*\[(.*)\]", dynamic) == ["libc.so.6"]
+    assert re.findall(r"SONAME.*\[(.*)\]", dynamic) == [f"libdnorm.so.{ABI}"]
+
+
+def check(words: list[str], out: str | bytes, checkers: list[str], status: int = 0, given: bytes = b"") -> None:
+    """Tests what a program prints, by itself and under valgrind."""
+    assert run(words, given) == said(out, b"", status), words
+    for name in checkers:
+        need("valgrind")
+        assert run([*CHECKERS[name], *words], given) == said(out, b"", status), f"{name} of {words}"
+
+
+def large_texts() -> dict[str, bytes]:
+    """Returns a text of many lines for each kind."""
+    count = 40_000
+    texts = {
+        "min": (f"p min {count} {count}\nn 1 9\nn 2 -9\n", "a {0} {1} 0 {2} {2}\n"),
+        "max": (f"p max {count} {count}\nn 1 s\nn 2 t\n", "a {0} {1} {2}\n"),
+        "sp": (f"p sp {count} {count}\n", "a {0} {1} {2}\n"),
+        "ss": (f"p aux sp ss {count}\n", "s {0}\n"),
+        "p2p": (f"p aux sp p2p {count}\n", "q {0} {1}\n"),
+        "co": (f"p aux sp co {count}\n", "v {0} {1} {2}\n"),
+    }
+    numbers = [(i, i * 7919 % count + 1, i % 9 + 1) for i in range(1, count + 1)]
+    return {kind: (head + "".join(line.format(*it) for it in numbers)).encode() for kind, (head, line) in texts.items()}
+
+
+@pytest.fixture(scope="module")
+def in_c(c_library: str, tmp_path_factory: pytest.TempPathFactory) -> str:
+    built = f"{tmp_path_factory.mktemp('c')}/c"
+    wraps = [f"-Wl,--wrap={it}" for it in ("malloc", "realloc", "free")]
+    words = ["-std=c99", f"-I{c_library}/include", "-o", built, f"{SOURCES}/library.c", f"{c_library}/lib/libdnorm.a"]
+    compiled("cc", *words, *wraps, "-pthread")
+    return built
+
+
+@pytest.mark.parametrize("words, out, checkers", CALLS, ids=[it[0] for it in CALLS])
+def test_calls(in_c: str, words: str, out: str, checkers: list[str]) -> None:
+    """Orders of calls, failing allocations and threads."""
+    if words == "memory":
+        out = run([in_c, words]).out.decode()
+        assert re.fullmatch(r"[1-9]\d* allocations\n", out)
+    check([in_c, *words.split()], out, checkers)
+
+
+def test_stack(in_c: str) -> None:
+    for kind, text in large_texts().items():
+        assert run([in_c, "stack"], text) == said("right\n"), kind
+
+
+@pytest.fixture(scope="module")
+def in_cpp(c_library: str, tmp_path_factory: pytest.TempPathFactory) -> str:
+    """The classes, with the shared library as pkg-config names it."""
+    need("pkg-config")
+    built = f"{tmp_path_factory.mktemp('cc')}/cc"
+    found = run(["pkg-config", "--cflags", "--libs", f"{c_library}/lib/pkgconfig/dnorm.pc"]).out.decode().split()
+    assert "-ldnorm" in found
+    words = ["-std=c++17", "-o", built, f"{SOURCES}/library.cc", *found, f"-Wl,-rpath,{c_library}/lib"]
+    compiled("c++", *words, f"-I{c_library}/include")
+    return built
+
+
+@pytest.mark.parametrize("text, forms", GIVEN, ids=[f"{it[0]!r:.60}" for it in GIVEN])
+def test_cpp(in_cpp: str, text: bytes, forms: list[bytes]) -> None:
+    assert run([in_cpp], text) == said(b"".join(forms))
+
+
+def test_refusals_in_cpp(in_cpp: str, tested: str) -> None:
+    for text, line in refusal_lines(tested).items():
+        assert run([in_cpp], text) == said(b"", f"code {line.split(': ')[1].split()[0]}: {line}\n", 2), text
+
+
+def test_files_in_cpp(in_cpp: str, folder: str) -> None:
+    write("text", ROADS)
+    assert run([in_cpp, "text"]) == said(ROADS_CANON)
+    for name, cause in {"none": "No such file or directory", folder: "Is a directory"}.items():
+        assert run([in_cpp, name]) == said(b"", f"{name}: {cause}\n", 4)
+
+
+@pytest.mark.parametrize("text", [FLOWS, b"p sp 1 1\nq\n"], ids=["accepted", "refused"])
+def test_memcheck_of_cpp(in_cpp: str, text: bytes) -> None:
+    need("valgrind")
+    assert run([*CHECKERS["memcheck"], in_cpp], text) == run([in_cpp], text)
+
+
+@pytest.mark.parametrize("compiler, standard, header", COMPILED)
+def test_clean_headers(c_library: str, compiler: str, standard: str, header: str) -> None:
+    """The headers compile without a warning, by themselves and beside R's macro."""
+    if not shutil.which(compiler):
+        # tools/setup installs no clang.
+        pass_over(compiler)
+    write("Rmath.h", RMATH)
+    own, other = f"#include <{header}>\n", '#include "Rmath.h"\n'
+    source = f"uses.{'cc' if '+' in compiler else 'c'}"
+    for text in [own, other + own, own + other]:
+        write(source, text + USES)
+        assert run([compiler, f"-std={standard}", *STRICT, f"-I{c_library}/include", source]) == said(), text
+
+
+@pytest.mark.parametrize("words, header", [("cc -std=c99", "dnorm_tools.h"), ("c++ -std=c++17", "dnorm.hpp")])
+def test_two_files(c_library: str, words: str, header: str) -> None:
+    """Two files of a program include the headers."""
+    end = "cc" if "++" in words else "c"
+    for name, text in [("uses", USES), ("other", OTHER)]:
+        write(f"{name}.{end}", f"#include <{header}>\n{text}")
+    more = ["-o", "two", f"uses.{end}", f"other.{end}", f"{c_library}/lib/libdnorm.a"]
+    compiled(*words.split(), f"-I{c_library}/include", *more)
+    assert run(["./two"]) == said()
+
+
+@pytest.mark.parametrize("name", WRONG)
+def test_wrong_use(c_library: str, name: str) -> None:
+    """Wrong uses of the classes do not compile, and the right ones beside them do."""
+    need("c++")
+    statement, wrong, right = WRONG[name]
+    statuses = []
+    for it in [wrong, right]:
+        lines = ["#include <dnorm.hpp>", "using dnorm_cpp::Instance;"]
+        lines.append("void f(const std::string &text, const Instance &graph) {")
+        lines += ["    (void)text, (void)graph;", f"    {statement.format(it)}", "}"]
+        write("wrong.cc", "\n".join([*lines, ""]))
+        ran = run(["c++", "-std=c++17", "-fsyntax-only", f"-I{c_library}/include", "wrong.cc"])
+        statuses.append(ran.status != 0)
+    assert statuses == [True, False], "whether the wrong and the right use are refused"
+
+
+def test_plugin(c_library: str, folder: str) -> None:
+    """A plugin that is linked with the archive works, and exports none of its functions."""
+    need("nm")
+    write("plugin.c", PLUGIN)
+    words = ["-std=c99", "-shared", "-fPIC", "-o", "plugin.so", "plugin.c", f"{c_library}/lib/libdnorm.a"]
+    compiled("cc", f"-I{c_library}/include", *words, "-Wl,-z,defs")
+    assert run(["nm", "-D", "--defined-only", "plugin.so"]).out.decode().split()[2::3] == ["plugin_reads"]
+    reads_text = ctypes.CDLL(f"{folder}/plugin.so").plugin_reads
+    reads_text.argtypes = [ctypes.c_char_p, ctypes.c_size_t]
+    assert [reads_text(text, len(text)) for text in (ROADS, b"x\n")] == [1, 0]
+
+
+@pytest.fixture(scope="module")
+def tools(c_library: str, tmp_path_factory: pytest.TempPathFactory) -> str:
+    """A program that uses the functions of dnorm_tools.h."""
+    built = f"{tmp_path_factory.mktemp('tools')}/tools"
+    words = [f"-I{c_library}/include", "-o", built, f"{SOURCES}/library_tools.c", f"{c_library}/lib/libdnorm.a"]
+    compiled("cc", "-std=c99", *words)
+    return built
+
+
+def test_sentences(tools: str, tested: str) -> None:
+    """The names and sentences of all codes."""
+    sentences = sentences_of(tested)
+    sentences |= {0: "Fine: The call did what it is for.", 40: "WrongCall: The handle is not for this call."}
+    sentences[41] = "TooWide: A number does not fit 32 bits."
+    assert run([tools, "codes"]) == said("".join(f"{it} {sentences.get(it, 'Unknown: ')}\n" for it in range(256)))
+
+
+def test_failing_streams(tools: str, tested: str) -> None:
+    sentences = sentences_of(tested)
+    check([tools, "signals"], "interrupted 1\n" * 2, [])
+    lines = [f"31 {sentences[31]}: Input/output error\n", f"line 2: 5 {sentences[5]}\n"]
+    check([tools, "broken"], "".join(lines), ["memcheck"])
+
+
+@pytest.mark.parametrize("text", STARS, ids=repr)
+def test_star(tools: str, text: bytes) -> None:
+    star, columns, status = STARS[text]
+    is_made = status == 0 or star.startswith("0 ")
+    check([tools, "star", "1"], star, ["memcheck"] * (text == ROADS), 0 if is_made else 2, text)
+    assert run([tools, "narrow", "1", "2"], text) == said(columns, status=status), "columns of 32 bits"
+
+
+def test_large_star(tools: str, tested: str) -> None:
+    large = b"p sp 9223372036854775807 0\n"
+    assert run([tools, "star", "1"], large) == said(f"30 {sentences_of(tested)[30]}\n", status=2), "without memory"
+    many = b"p sp 600 1200\n" + b"".join(b"a %d %d %d\n" % (it // 2, it % 2 + 1, it) for it in range(2, 1202))
+    ran = run([tools, "star", "2"], many).out.decode().splitlines()
+    assert ran[0] == " ".join(str(2 * it) for it in range(601)) + " "
+    rows = "".join(f"{it // 2} {it % 2 + 1} {it}{' 0' if it < 702 else ''}\n" for it in range(2, 1202))
+    assert run([tools, "narrow", "1", "1400"], many) == said(rows), "columns of 1200 arcs"
+
+
+def is_kept(fifo: str, tools: str) -> bool:
+    """Whether a file that is read by its name would not be passed on to another program. It is a pipe with a name, so
+    that it is open until the text is written."""
+    os.mkfifo(fifo)
+    with subprocess.Popen([tools, "once", fifo], stdout=subprocess.PIPE) as process:
+        with open(fifo, "wb") as text:
+            folder = f"/proc/{process.pid}"
+            own: list[str] = []
+            while not own and process.poll() is None:
+                own = [it for it in os.listdir(f"{folder}/fd") if os.path.realpath(f"{folder}/fd/{it}") == fifo]
+            flags = [int(text_of(f"{folder}/fdinfo/{it}").split()[3], 8) for it in own]
+            text.write(ROADS)
+        is_read = process.communicate()[0] == ROADS_CANON
+        return is_read and len(flags) == 1 and flags[0] & os.O_CLOEXEC != 0
+
+
+def test_reads(tools: str, tested: str) -> None:
+    """What is read from a path, a descriptor and a stream, and written by dnorm_write."""
+    texts = {text: (b"".join(forms[:1]).decode(), 0) for text, *forms in CANONICAL}
+    texts |= {text: (f"{line}\n", 2) for text, line in refusal_lines(tested).items()}
+    for text, (wanted, status) in texts.items():
+        write("text", text)
+        for how in ["path", "fd", "file"]:
+            assert run([tools, "read", how, "text"]) == said(wanted, status=status), f"{text!r:.200} by {how}"
+            if how != "path":
+                found = run([tools, "read", how], text)
+                assert found == said(wanted, status=status), f"{text!r:.200} of a pipe by {how}"
+    large = ROADS.replace(b"p sp", b"c " + b"x" * 100_000 + b"\np sp")
+    for how in ["fd", "file"]:
+        assert run([tools, "read", how], large) == said(ROADS_CANON), f"a text of several pieces by {how}"
+    for text in [ROADS, b"x\n"]:
+        write("text", text)
+        wanted, status = texts.get(text, (f"line 1: 1 {sentences_of(tested)[1]}\n", 2))
+        check([tools, "read", "path", "text"], wanted, ["memcheck"], status)
+
+
+def test_open_files(tools: str, folder: str) -> None:
+    """A file stays with its process."""
+    need_proc()
+    assert is_kept(os.path.realpath(f"{folder}/fifo"), tools)
+
+
+def test_unreadable(tools: str, tested: str, folder: str) -> None:
+    failed = [("path", "none", "No such file or directory")]
+    failed += [(how, folder, "Is a directory") for how in ["path", "fd", "file"]]
+    for how, name, cause in failed:
+        line = f"31 {sentences_of(tested)[31]}: {cause}\n"
+        assert run([tools, "read", how, name]) == said(line, status=2), f"{name} by {how}"

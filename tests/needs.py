@@ -1,0 +1,59 @@
+"""Random cases, and what a test needs and the machine may lack. A test without it is skipped, with the reason.
+With CI=true, which says that tools/setup has installed everything, a missing tool is a failure."""
+
+import os
+import shutil
+from collections.abc import Callable
+from random import Random
+from typing import Any, NoReturn
+
+import hypothesis
+import pytest
+from hypothesis import strategies
+
+
+def seeds(count: int, quick: int) -> list[Any]:
+    """Returns so many seeds as parameters of a test, of which a quick run has the first ones."""
+    return [pytest.param(it, marks=[pytest.mark.whole] * (quick <= it)) for it in range(count)]
+
+
+def drawn(count: int, test: Callable[[Random], None]) -> None:
+    """Calls a test with so many sources of random numbers. They are the same each time. If the test fails, hypothesis
+    looks for simpler numbers with which it fails, and tells of the simplest."""
+    given = hypothesis.given(strategies.randoms(use_true_random=False))(test)
+    checks = [*hypothesis.HealthCheck]
+    same = hypothesis.settings(deadline=None, database=None, derandomize=True, suppress_health_check=checks)
+    hypothesis.settings(same, max_examples=count)(given)()
+
+
+def leave_out(tool: str) -> NoReturn:
+    """Skips the test, since this tool is missing. If CI=true is set, the test fails."""
+    if os.environ.get("CI") == "true":
+        pytest.fail(f"left out, since {tool} is missing")
+    pass_over(tool)
+
+
+def pass_over(needs: str) -> NoReturn:
+    """Skips the test because this machine does not allow it. `needs` is what it lacks."""
+    pytest.skip(f"{needs} is missing", allow_module_level=True)
+
+
+def need(*tools: str) -> None:
+    """Leaves the test out if one of these commands is missing."""
+    for it in tools:
+        if not shutil.which(it):
+            leave_out(it)
+
+
+def need_proc() -> None:
+    """Passes over the test if the system has no /proc, which it needs by itself or by bash's <(..)."""
+    if not os.path.exists("/proc/self/fd"):
+        pass_over("/proc")
+
+
+def terminal() -> tuple[int, int]:
+    """Returns both ends of a terminal. Passes over the test if the system has none, as without /dev/pts."""
+    try:
+        return os.openpty()
+    except OSError:
+        pass_over("a terminal (/dev/pts)")

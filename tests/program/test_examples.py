@@ -1,0 +1,246 @@
+"""The examples in README.md and in the pages of docs/ for users: each block of commands that a block of output follows.
+Both streams together must be this output. The blocks of a section run in one shell, in a fresh folder that has
+examples/, the program as ./dnorm, ./dnorm-files, and for README.md share/conformance/, with what `./install` installs
+on its path; the shell is bash only if a block asks for it. Then the blocks of all sections of a page run in one bash. A
+block that begins with a comment with the name of a file is written to that file first.
+
+The recipes for a file have the status that the manual says for one that is refused or unreadable. Each text in
+examples/refused/ is refused as its name says, and the section of this refusal in docs/REFUSALS.md runs it."""
+
+import functools
+import os
+import re
+import shutil
+import subprocess
+import sys
+from collections.abc import Iterator
+from dataclasses import dataclass
+from typing import Any
+
+import pytest
+from needs import leave_out, need_proc, pass_over
+from refusal_table import refusals, with_example
+from shared import LIMIT, ROOT, Answer, links_listed, listed, python_with, run, said, source_of, text_of, write
+
+README, REFUSALS = "README.md", "docs/REFUSALS.md"
+PAGES = [README, "docs/MANUAL.md", "docs/FILES.md", "docs/LIBRARY.md", REFUSALS]
+FENCED = re.compile(r"^```(\w*)\n((?:(?!```).*\n)*)```$", re.M)
+FILE = re.compile(r"(?:#!.*\n)?(?:#|//) ([\w-]+\.\w+)\n")
+# The tools that a plain system may lack, by the words that call them.
+NEEDS = {"git": "git", "pv": "pv", "c++": "c++"}
+NEEDS |= {f"~/.local/lib/libdnorm.{it}": "libdnorm" for it in ["a", "so.2"]}
+NEEDS |= {"static=dnorm": "libdnorm", "~/.local/share/doc/dnorm/c/examples/least_cost.cc": "LEMON"}
+NEEDS |= {"cc": "cc", "rustc": "rustc"}
+# The modules of Python that a plain system may lack, by their words.
+MODULES = ["networkx", "scipy", "numpy"]
+NEEDS |= {it: it for it in MODULES}
+# Where tools/c-library puts the library for C.
+LIBRARY = f"{ROOT}/c/out"
+# Recipes for a file: their page and section, the beginning of the commands, the file, and the status for a file that is
+# refused and for one that is unreadable.
+RECIPES = [
+    (README, "Use it", "./dnorm canon examples/roads.gr |", "examples/roads.gr", 2, 4),
+    ("docs/MANUAL.md", "canon", "dnorm canon examples/flow.min > ", "examples/flow.min", 2, 4),
+    ("docs/MANUAL.md", "Canonical checksums", "dnorm canon", "examples/roads.gr", 2, 4),
+    ("docs/MANUAL.md", "Compressed files", "gzip -dc roads.gr.gz", "roads.gr.gz", 2, 2),
+    ("docs/MANUAL.md", "In place", "dnorm canon town.gr > town.gr.new", "town.gr", 2, 4),
+    ("docs/MANUAL.md", "Progress", "pv", "examples/roads.gr", 2, 2),
+    ("docs/FILES.md", "Larger than memory", "canon-in-parts", "examples/roads.gr", 2, 4),
+]
+TEXTS = sorted(os.listdir(f"{ROOT}/examples/refused"))
+
+
+@dataclass
+class Block:
+    """Commands with their output, or a file of the page, which has a name."""
+
+    language: str
+    text: str
+    output: str = ""
+    name: str = ""
+
+
+def sections_of(page: str) -> list[tuple[str, str]]:
+    """Returns the sections of a page, by its headings of the second and third level."""
+    parts = re.split(r"^###? ", page, flags=re.M)[1:]
+    return [(head, text) for head, _, text in (it.partition("\n") for it in parts)]
+
+
+def blocks_of(section: str) -> Iterator[Block]:
+    """Yields the files of a section, and its commands that a block of output follows."""
+    found = [*FENCED.finditer(section)]
+    for it, following in zip(found, [*found[1:], None]):
+        named = FILE.match(it[2])
+        if named and it[1] != "sh":
+            yield Block(it[1], it[2], name=named[1])
+        elif it[1] in ("sh", "bash") and following and not following[1] and following.start() == it.end() + 2:
+            yield Block(it[1], it[2], following[2])
+
+
+@functools.cache
+def sections_of_page(name: str) -> dict[str, list[Block]]:
+    """Returns the sections of a page that have examples, with their files and commands."""
+    found = {head: [*blocks_of(text)] for head, text in sections_of(text_of(f"{ROOT}/{name}"))}
+    return {head: blocks for head, blocks in found.items() if any(not it.name for it in blocks)}
+
+
+def is_there(tool: str) -> bool:
+    """Whether this tool exists."""
+    if tool in MODULES:
+        return bool(python_with(*MODULES))
+    if tool == "libdnorm":
+        return os.path.exists(f"{LIBRARY}/lib/libdnorm.a")
+    if tool == "LEMON":
+        return os.path.exists("/usr/include/lemon/network_simplex.h")
+    return bool(shutil.which(tool))
+
+
+def leave_out_lacking(lacking: list[str]) -> None:
+    """Leaves the test out if tools are lacking. tools/setup does not install Rust."""
+    if lacking == ["rustc"]:
+        pass_over("rustc")
+    if lacking:
+        leave_out(", ".join(lacking))
+
+
+class Examples:
+    """The examples of a page, by sections, and the folder in which they run."""
+
+    def __init__(self, name: str, tested: str, folder: str) -> None:
+        self.name, self.folder = name, folder
+        self.sections = sections_of_page(name)
+        own = {f"GIT_{one}_{it}": "a@example.org" for one in ["AUTHOR", "COMMITTER"] for it in ["NAME", "EMAIL"]}
+        own |= {"GIT_CONFIG_GLOBAL": "/dev/null", "GIT_CONFIG_NOSYSTEM": "1", "LC_ALL": "C", "HOME": f"{folder}/home"}
+        # The user's folder must not hide the python3 that runs this test.
+        path = [f"{folder}/home/.local/bin", os.path.dirname(sys.executable), os.environ["PATH"]]
+        self.environment = {**os.environ, **own, "PATH": ":".join(path)}
+        # rustup looks for Rust in the user's folder.
+        self.environment.setdefault("RUSTUP_HOME", os.path.expanduser("~/.rustup"))
+        # The package for Python, and a Python that has what its examples need.
+        self.environment |= {"PYTHONPATH": f"{ROOT}/python/src", "PYTHONDONTWRITEBYTECODE": "1"}
+        os.makedirs(path[0])
+        os.symlink(python_with(*MODULES) or sys.executable, f"{path[0]}/python3")
+        self.install(tested)
+
+    def install(self, tested: str) -> None:
+        """Installs below ~/.local what `./install` installs, and makes the folder that fresh folders are copies of."""
+        for mode, place, to in listed():
+            path, source = f"{self.folder}/home/.local/{to}", source_of(place, tested)
+            if os.path.exists(source) or is_there("libdnorm"):
+                os.makedirs(os.path.dirname(path), exist_ok=True)
+                shutil.copy(source, path)
+                os.chmod(path, mode)
+        for to, target in links_listed().items() if is_there("libdnorm") else ():
+            os.symlink(target, f"{self.folder}/home/.local/{to}")
+        os.mkdir(f"{self.folder}/fresh")
+        os.symlink(tested, f"{self.folder}/fresh/dnorm")
+        os.symlink(f"{ROOT}/dnorm-files", f"{self.folder}/fresh/dnorm-files")
+        shutil.copytree(f"{ROOT}/examples", f"{self.folder}/fresh/examples")
+        if self.name == README:
+            shutil.copytree(f"{ROOT}/share/conformance", f"{self.folder}/fresh/share/conformance")
+
+    def lacking(self, blocks: list[Block]) -> list[str]:
+        """Returns the missing tools that these blocks need."""
+        text = "\n".join(it.text for it in blocks)
+        words = [it for it in NEEDS if re.search(rf"(?<![\w./-]){re.escape(it)}(?![\w./-])", text)]
+        return sorted({NEEDS[it] for it in words if not is_there(NEEDS[it])})
+
+    def by_shell(self, shell: str, commands: str, **more: Any) -> Answer:
+        """Returns what commands print, both streams together."""
+        more = {"stdin": subprocess.DEVNULL, "stdout": subprocess.PIPE, "stderr": subprocess.STDOUT, **more}
+        ran = subprocess.run([shell, "-c", commands], env=self.environment, timeout=5 * LIMIT, check=False, **more)
+        return Answer(ran.stdout, b"", ran.returncode)
+
+    def try_all(self, shell: str, blocks: list[Block]) -> None:
+        """Tests the output of each of these blocks, which run in one shell in a fresh folder."""
+        place, outputs = f"{self.folder}/work", f"{self.folder}/outputs"
+        shutil.copytree(f"{self.folder}/fresh", place, symlinks=True)
+        os.mkdir(outputs)
+        for it in blocks:
+            if it.name:
+                write(f"{place}/{it.name}", it.text)
+        commands = [it for it in blocks if not it.name]
+        self.by_shell(
+            shell, "".join(f"exec > {outputs}/{i} 2>&1\n{it.text}" for i, it in enumerate(commands)), cwd=place
+        )
+        found = [
+            text_of(f"{outputs}/{i}", "replace") if os.path.exists(f"{outputs}/{i}") else ""
+            for i in range(len(commands))
+        ]
+        shutil.rmtree(place)
+        shutil.rmtree(outputs)
+        for printed, it in zip(found, commands):
+            assert printed == it.output, it.text
+
+
+@pytest.fixture(scope="module")
+def examples(request: pytest.FixtureRequest, tested: str, tmp_path_factory: pytest.TempPathFactory) -> Examples:
+    """The examples of a page, which is the parameter."""
+    need_proc()
+    return Examples(request.param, tested, str(tmp_path_factory.mktemp("examples")))
+
+
+def test_pages() -> None:
+    assert [it for it in PAGES if not sections_of_page(it)] == []
+
+
+@pytest.mark.parametrize(
+    "examples, head", [(page, head) for page in PAGES for head in sections_of_page(page)], indirect=["examples"]
+)
+def test_section(examples: Examples, head: str) -> None:
+    blocks = examples.sections[head]
+    leave_out_lacking(examples.lacking(blocks))
+    is_bash = any(it.language == "bash" for it in blocks if not it.name)
+    examples.try_all("bash" if is_bash else "sh", blocks)
+
+
+@pytest.mark.whole
+@pytest.mark.parametrize("examples", PAGES, indirect=True)
+def test_sections_together(examples: Examples) -> None:
+    examples.try_all("bash", [it for own in examples.sections.values() if not examples.lacking(own) for it in own])
+
+
+@pytest.mark.parametrize(
+    "examples, head, begin, name, refused, unreadable", RECIPES, indirect=["examples"], ids=[it[2] for it in RECIPES]
+)
+def test_recipe(
+    examples: Examples, folder: str, head: str, begin: str, name: str, refused: int, unreadable: int
+) -> None:
+    """The recipes for a file end with the status of the program, and leave the file as it is."""
+    blocks = examples.sections[head]
+    leave_out_lacking(examples.lacking(blocks))
+    text = "".join(it.text for it in blocks if not it.name)
+    found = re.search(rf"^{re.escape(begin)}.*(?:(?<=&&)\n.*)*", text, re.M)
+    commands = ("set -o pipefail\n" if "pipefail" in text else "") + (found[0] if found else "")
+    for given, status in [(b"x\n", refused), (None, unreadable)]:
+        place = f"{folder}/{status if given else 'none'}"
+        os.mkdir(place)
+        for it in blocks:
+            if it.name:
+                write(f"{place}/{it.name}", it.text)
+        os.symlink(f"{examples.folder}/fresh/dnorm", f"{place}/dnorm")
+        if given:
+            write(f"{place}/given", given)
+        ran = examples.by_shell("bash", commands.replace(name, "given"), cwd=place)
+        left = [it for it in os.listdir(place) if it.startswith("given") and os.path.getsize(f"{place}/{it}")]
+        assert (ran.status, left) == (status, ["given"] if given else []), f"{given!r}: {ran.out!r}"
+
+
+def test_refusal_sections() -> None:
+    numbers = [int(it.split()[0]) for it, _ in sections_of(text_of(f"{ROOT}/{REFUSALS}")) if it[0].isdigit()]
+    assert numbers == [it.number for it in refusals()]
+    assert [int(it.split("-")[0]) for it in TEXTS] == [it.number for it in with_example()]
+
+
+@pytest.mark.parametrize("path", TEXTS)
+def test_refused_text(tested: str, path: str) -> None:
+    """A text has the refusal of its name, a comment that names the line, and the section of this refusal runs it."""
+    number, word = re.split(r"[-.]", path)[:2]
+    found = run([tested, "check", path], cwd=f"{ROOT}/examples/refused")
+    place = found.err.decode().split(":")[1]
+    assert found == said(b"", f"{path}:{place}: {int(number)} {word}\n", 2)
+    comment = text_of(f"{ROOT}/examples/refused/{path}").partition("\n")[0]
+    assert comment.startswith("c ") and (place == "end" or f"Line {place} " in comment)
+    section = dict(sections_of(text_of(f"{ROOT}/{REFUSALS}")))[f"{int(number)} {word}"]
+    assert f"\ndnorm-explain check examples/refused/{path}\n" in section
+    assert f"examples/refused/{path}" in [it for _, it, _ in listed()], "it is installed"

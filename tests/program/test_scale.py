@@ -1,0 +1,381 @@
+"""scale/canon-in-parts against one run of the built program: the bytes, the line on standard error and the status are
+the same. The texts are of all kinds, clean, noisy and with unusual spelling. They are cut into chunks of one line up
+to more than the text, and into one range up to more ranges than lines."""
+
+import os
+import pwd
+import random
+import shlex
+import shutil
+import signal
+import socket
+import subprocess
+import sys
+import time
+from typing import Any
+
+import pytest
+from needs import leave_out, need, pass_over, seeds
+from reading import MOST
+from shared import LIMIT, ROOT, Answer, pipe, run, said, text_of, write
+from texts import lines_of, made, spelled, spoilt
+
+pytestmark = pytest.mark.whole
+SCRIPT = f"{ROOT}/scale/canon-in-parts"
+HALF = MOST // 2 + 1
+
+NOISY = (
+    b"\r\r\n \t \nc p sp 1 1\np\tsp  +4 006 \r\n\n\r \t a \t+3 02\r-007 \r\nca 1 2\n  a 1 2 -7\nc \0\xff\n"
+    b"a 4 4 0\na 3 2 00000000000000000000000000000000000000000000000001\n\na 2 1 -0\nc a 9 9 9\n a 1 2 8"
+)
+SUPPLIES = (
+    b"c in both forms\np min 4 8\nn 3 -2\nn 1 2\nn 2 0\na 3 1 0 4 1\na 1 2 1 3 2\na 1 2 0 2 5\na 1 2 2 2 -7\n"
+    b"a 2 3 0 0 9\na 1 2 0 1 2\na 4 4 1 1 1\na 4 4 2 3 0\n"
+)
+CAPACITIES = b"p max 5 7\nn 5 t\nn 1 s\na 2 3 0\na 1 2 4\na 1 3 2\na 1 2 5\na 5 5 1\na 4 1 3\na 4 1 0\n"
+FAR_NODES = (
+    b"p sp 9223372036854775807 6\na 9223372036854775807 1 3\na 9223372036854775806 2 1\na 9223372036854775805 1 1\n"
+    b"a 9007199254740993 5 5\na 9007199254740992 5 5\na 1 9223372036854775807 2\n"
+)
+
+
+def terminals(count: int, *arcs: str) -> bytes:
+    """Returns a `max` text of three nodes."""
+    return "\n".join([f"p max 3 {count}", "n 1 s", "n 3 t", *[f"a {it}" for it in arcs], ""]).encode()
+
+
+# Texts that one process reads whole, and texts whose head has a fault. No part of them is made.
+WHOLE = [
+    b"",
+    b"c only\n\n",
+    b"p sp 0 0",
+    b"p min 5 0\nn 2 7\nn 1 -7\nn 3 0\n",
+    b"p max 2 0\nn 2 s\nn 1 t\n",
+    b"p max 2 1\nn 1 s\n",
+    b"p aux sp ss 3\ns 3\ns 1\ns 1\n",
+    b"p aux sp co 2\nv 2 1 1\nv 1 5 5\n",
+    b"p aux sp co 2\nv 2 1 1\nv 2 5 5\n",
+    b"p max 1 2\na 1 1 5\na 1 1 6\n",
+    b"p max 1 2\nn 1 s\nn 1 t\na 1 1 5\n",
+    b"p sp 0 1\na 1 1 1\n",
+    b"a 1 2 3\np sp 2 1\n",
+    b"p aux sp ss 1\na 1 2 3\n",
+    b"p sp 2 0\na 1 2 3\n",
+    b"c\nq 1\np sp 2 1\na 1 2 3\n",
+    b"p sp 2 1\na 1 2 x\nb\n",
+]
+# Texts in parts: the lines of a chunk, the number of ranges (0 for as many as chunks), the form, and the text.
+PARTS = [
+    (1, 0, 1, NOISY),
+    (3, 40, 2, NOISY),
+    (1000, 3, 1, NOISY),
+    (1, 2, 1, SUPPLIES),
+    (4, 0, 2, SUPPLIES),
+    (2, 50, 1, CAPACITIES),
+    (2, 3, 2, FAR_NODES),
+    # No arc means anything.
+    (1, 2, 1, b"p min 2 2\na 1 2 0 0 9\na 2 1 0 0 9\n"),
+    # Faults in the first, a middle and the last chunk, and two faults.
+    (3, 2, 1, b"p sp 2 4\na 1 2 3\na 1 2 x\na 1 2 3\na 1 2 3\n"),
+    (2, 0, 1, b"p min 2 4\na 1 2 0 3 1\na 1 2 0 3 1\na 2 1 4 3 1\na 1 2 0 3 1\n"),
+    (1, 3, 1, b"p max 2 4\nn 1 s\nn 2 t\na 1 2 3\na 1 2 3\na 1 2 3\na 1 5 3"),
+    (2, 1, 2, b"p min 2 4\na 1 2 0 3 1\na 1 2 0 3 1\na 2 1 0 3 1\nn 1 0\np sp 1 1\n"),
+    (2, 1, 2, b"p sp 2 3\na 1 2 3\nc\np sp 2 3\na 1 2 3\nx\n"),
+    # One arc line too many, with another fault in it, before it and after it; one arc line too few; no sink.
+    (2, 2, 1, b"p sp 2 2\na 1 2 3\na 1 2\na x\n"),
+    (2, 2, 1, b"p sp 2 2\na 1 2 3\na 1 2 3\na x\nb\n"),
+    (1, 2, 1, b"p sp 2 2\na 1 2 3\na 1 2 3\nb\na x\n"),
+    (2, 2, 1, b"p sp 2 4\na 1 2 3\na 1 2 3\na 2 2 2\n"),
+    (1, 2, 1, b"p max 2 3\nn 1 s\na 1 2 5\na 1 2 6\na 2 2 2\n"),
+    (1, 2, 1, b"p max 2 3\nn 1 s\na 1 2 5\na 1 2 -6\na 2 2 2\n"),
+    # Sums that are too large only across chunks, in two ranges, before another fault and after it.
+    (2, 2, 1, terminals(3, f"1 2 {MOST}", "2 3 1", "1 2 1")),
+    (2, 2, 1, terminals(3, f"1 2 {MOST}", "2 3 1", "1 2 0")),
+    (1, 3, 1, terminals(4, f"1 2 {MOST}", f"2 3 {MOST}", "2 3 1", "1 2 1")),
+    (3, 3, 1, terminals(4, f"1 2 {MOST}", f"2 3 {MOST}", "1 2 1", "2 3 1")),
+    (2, 2, 1, terminals(3, f"1 2 {MOST}", "1 2 1", "1 2 x")),
+    (2, 2, 1, terminals(3, f"1 2 {MOST}", "1 2 x", "1 2 1")),
+    (2, 0, 1, terminals(5, f"1 2 {MOST}", "1 2 1")),
+    (1, 2, 2, f"p min 3 3\na 1 2 {HALF} {HALF} {MOST}\na 1 2 0 5 -4\na 1 2 0 {HALF} 4\n".encode()),
+    (1, 2, 2, f"p min 3 3\na 1 2 {HALF} {HALF} {MOST}\na 1 2 0 5 -4\na 1 2 0 {HALF - 6} 4\n".encode()),
+]
+
+# Wrong command lines.
+BAD_WORDS = ["", "a b", "--form 3 -", "--lines 0 -", "--parts x -", "--jobs many -", "--color -", "-x", "- --lines"]
+
+# This machine by itself, and by GNU parallel.
+MACHINES: list[list[str]] = [[], ["--sshlogin", ":"]]
+BY_MACHINE = pytest.mark.parametrize("machine", MACHINES, ids=["by itself", "by parallel"])
+# What a part does that fails, and what is said of it.
+FAILING = [
+    ("kill -9 $$", "dnorm was ended by signal 9 (SIGKILL)"),
+    ("echo 'out: 33 Write' >&2; exit 4", "33 Write"),
+    ("exit 7", "dnorm ended with status 7"),
+]
+# Signals that end the script while it reads, or makes parts of this text, and on which machine. Without a text, the
+# script waits for it.
+SIGNALS: list[tuple[signal.Signals, bytes, list[str]]] = [
+    (signal.SIGTERM, SUPPLIES, []),
+    (signal.SIGINT, b"", []),
+    (signal.SIGHUP, b"", []),
+    (signal.SIGINT, SUPPLIES, []),
+    (signal.SIGTERM, SUPPLIES, MACHINES[1]),
+    (signal.SIGINT, SUPPLIES, MACHINES[1]),
+]
+# A program that runs the command in braces for a part. Its other runs are those of the built program.
+STAND_IN = '#!/bin/bash\nif [[ $* == *--form* ]]; then {}; fi\nexec {} "$@"\n'
+
+SSHD_CONFIG = """\
+ListenAddress 127.0.0.1
+Port {port}
+HostKey {folder}/host
+AuthorizedKeysFile {folder}/user.pub
+ForceCommand bash {folder}/login
+StrictModes no
+PidFile none
+"""
+SSH_CONFIG = """\
+Host far
+    HostName 127.0.0.1
+    Port {port}
+    User {user}
+    IdentityFile {folder}/user
+    IdentitiesOnly yes
+    BatchMode yes
+    StrictHostKeyChecking no
+    UserKnownHostsFile /dev/null
+    LogLevel ERROR
+"""
+# What a login to the other machine runs: commands in a home of its own, which are also listed in a file.
+LOGIN = """\
+export HOME={folder}/home
+cd
+echo "$SSH_ORIGINAL_COMMAND" >> {folder}/asked
+exec bash -c "$SSH_ORIGINAL_COMMAND"
+"""
+
+
+class Scale:
+    """The script with a program, a folder for its temporary files, and another folder for the files of the test."""
+
+    def __init__(self, tested: str, folder: str) -> None:
+        self.program, self.folder = tested, folder
+        self.temporary = f"{folder}/temporary"
+        os.mkdir(self.temporary)
+
+    def words(self, *options: str, tested: str = "") -> list[str]:
+        return [SCRIPT, "--program", tested or self.program, "--tmpdir", self.temporary, *options]
+
+    def run(self, *options: str, given: bytes = b"", tested: str = "", **more: Any) -> Answer:
+        """Runs the script, which must leave no temporary files."""
+        found = run(self.words(*options, tested=tested), given, **more)
+        assert os.listdir(self.temporary) == [], "files left"
+        return found
+
+    def parts(self, text: bytes, lines: int, parts: int, form: int, *options: str) -> None:
+        """Compares a text made in parts with one run."""
+        words = ["--jobs", "2", "--lines", f"{lines}", f"--form={form}", *options]
+        words += ["--parts", f"{parts}"] if parts else []
+        wanted = run([self.program, "canon", "--form", f"{form}", "-"], text)
+        assert self.run(*words, "-", given=text) == wanted, f"{' '.join(words)}, of {text!r}"
+
+    def stand_in(self, does: str) -> str:
+        """Makes a program that runs this command in place of canonicalising a part."""
+        path = f"{self.folder}/stand-in"
+        write(path, STAND_IN.format(does, shlex.quote(self.program)))
+        os.chmod(path, 0o755)
+        return path
+
+
+@pytest.fixture
+def scale(tested: str, folder: str, monkeypatch: pytest.MonkeyPatch) -> Scale:
+    # GNU parallel keeps its own files in a folder, and reads options from there.
+    monkeypatch.setenv("PARALLEL_HOME", f"{folder}/parallel")
+    write("-n.min", SUPPLIES)
+    return Scale(tested, folder)
+
+
+@pytest.mark.parametrize("text", WHOLE, ids=repr)
+def test_in_one(scale: Scale, text: bytes) -> None:
+    scale.parts(text, 2, 0, 1)
+
+
+@pytest.mark.parametrize("lines, parts, form, text", PARTS)
+def test_in_parts(scale: Scale, lines: int, parts: int, form: int, text: bytes) -> None:
+    scale.parts(text, lines, parts, form)
+
+
+@pytest.mark.parametrize("seed", seeds(8, 0))
+def test_random(scale: Scale, seed: int) -> None:
+    chance = random.Random(seed)
+    plain = lines_of(chance, made(chance, ["min", "max", "sp"][seed % 3], seed % 2 == 0))
+    text = spelled(chance, spoilt(chance, plain) if seed % 4 == 3 else plain)
+    scale.parts(text, chance.choice([1, 2, 3, 5, 50]), chance.choice([0, 1, 2, 3, 20]), 1 + seed % 2)
+
+
+def test_names(scale: Scale) -> None:
+    """Names of texts and of the folder for temporary files."""
+    wanted = run([scale.program, "canon", "--", "-n.min"])
+    assert scale.run("--lines=3", "--", "-n.min") == wanted
+    write("two words.min", SUPPLIES)
+    os.mkdir("two words")
+    assert scale.run("--lines=3", "--tmpdir", f"{scale.folder}/two words", "two words.min") == wanted
+    assert os.listdir("two words") == []
+
+
+def test_refusals(scale: Scale) -> None:
+    write("faulty", b"p sp 2 2\na 1 2 3\na 1 2\n")
+    assert scale.run("faulty", "--lines", "2") == said(b"", b"faulty:3: 8 FieldCount\n", 2)
+    for name in ["missing", "."]:
+        assert scale.run(name) == said(b"", f"{name}: 31 Read\n", 4)
+
+
+@pytest.mark.parametrize("stream", ["> /dev/full", ">&-", "<&-"])
+def test_streams(scale: Scale, stream: str) -> None:
+    name, line = ("-", "-: 31 Read\n") if stream == "<&-" else ("./-n.min", "out: 33 Write\n")
+    found = run(["bash", "-c", f"{shlex.join(scale.words('--lines=3'))} {name} {stream}"])
+    assert found == said(b"", line, 4)
+    assert os.listdir(scale.temporary) == []
+
+
+@pytest.mark.parametrize("words", BAD_WORDS)
+def test_wrong_words(scale: Scale, words: str) -> None:
+    found = run(scale.words(*words.split()))
+    told = found.err.startswith(b"canon-in-parts: ") and found.err.count(b"\n") == 1
+    assert (found.out, told, found.status) == (b"", True, 3)
+
+
+def test_help() -> None:
+    found = run([SCRIPT, "--help"])
+    assert (b"\nUsage: canon-in-parts " in found.out, found.err, found.status) == (True, b"", 0)
+
+
+@BY_MACHINE
+def test_out_of_memory(scale: Scale, machine: list[str]) -> None:
+    need(*["parallel"] * len(machine[:1]))
+    lacks = scale.stand_in("echo '-: 30 Memory' >&2; exit 4")
+    wanted = said(b"", b"./-n.min: 30 Memory\n", 4)
+    assert scale.run("--lines", "3", *machine, "./-n.min", tested=lacks) == wanted
+    # Only the last chunk runs out of memory, while the first one is still in progress.
+    lacks = scale.stand_in("grep -q '^a 4 4 2' || exec sleep 30; echo '-: 30 Memory' >&2; exit 4")
+    started = time.monotonic()
+    assert scale.run("--lines", "8", "--jobs", "2", *machine, "./-n.min", tested=lacks) == wanted
+    assert time.monotonic() - started < 20, "it ends at once"
+
+
+@BY_MACHINE
+@pytest.mark.parametrize("does, line", FAILING)
+def test_failing_part(scale: Scale, machine: list[str], does: str, line: str) -> None:
+    need(*["parallel"] * len(machine[:1]))
+    found = scale.run("--lines", "3", *machine, "./-n.min", tested=scale.stand_in(does))
+    end = f"canon-in-parts: a part failed: {line}\n".encode()
+    assert (found.out, found.err[-len(end) :], found.status) == (b"", end, 4)
+
+
+@pytest.mark.parametrize("number, text, machine", SIGNALS)
+def test_signal(scale: Scale, heeded: None, number: signal.Signals, text: bytes, machine: list[str]) -> None:
+    """A script that a signal ends, while it makes parts or reads, leaves no files and no processes."""
+    need(*["parallel"] * len(machine[:1]))
+    begun = f"{scale.folder}/begun"
+    waits = scale.stand_in(f"echo $$ >> {shlex.quote(begun)}; exec sleep 30")
+    write(begun, "")
+    started = subprocess.Popen(scale.words("--lines", "3", *machine, "-", tested=waits), stdin=subprocess.PIPE)
+    if text:
+        pipe(started.stdin).write(text)
+        pipe(started.stdin).close()
+    while started.poll() is None and not (os.path.getsize(begun) if text else os.listdir(scale.temporary)):
+        time.sleep(0.02)
+    started.send_signal(number)
+    assert started.wait(LIMIT) == 128 + number
+    assert os.listdir(scale.temporary) == []
+    assert [it for it in text_of(begun).split() if is_running(it)] == [], "processes left"
+
+
+def is_running(process: str) -> bool:
+    """Whether a process has not ended. One that has ended, but was not waited for, has no arguments any more."""
+    try:
+        with open(f"/proc/{process}/cmdline", "rb") as words:
+            return bool(words.read())
+    except FileNotFoundError:
+        return False
+
+
+@pytest.mark.parametrize("jobs", ["1", "0", "+1", "-1", "-99", "50%", "300%"])
+def test_jobs(scale: Scale, jobs: str) -> None:
+    assert scale.run("--lines=2", f"--jobs={jobs}", "-", given=SUPPLIES) == run([scale.program, "canon", "-"], SUPPLIES)
+
+
+def test_without_parallel(scale: Scale) -> None:
+    os.mkdir("bin")
+    os.symlink(sys.executable, "bin/python3")
+    alone = {**os.environ, "PATH": f"{scale.folder}/bin"}
+    wanted = run([scale.program, "canon", "-"], SUPPLIES)
+    assert scale.run("--lines=2", "-", given=SUPPLIES, env=alone) == wanted
+    line = "canon-in-parts: GNU parallel is missing (on Debian: apt-get install parallel)\n"
+    assert scale.run("--lines=2", "--sshlogin=:", "-", given=SUPPLIES, env=alone) == said(b"", line, 4)
+
+
+@pytest.mark.parametrize("name", ["python2.7", "python3.6", "python3.7", "python3.8"])
+def test_old_python(scale: Scale, name: str) -> None:
+    # A shim of pyenv is there for a Python that is not.
+    if not shutil.which(name) or run([name, "--version"]).status:
+        pass_over(name)
+    assert run([name, *scale.words("-")], SUPPLIES) == said(b"", b"canon-in-parts: it needs Python 3.9 or later\n", 4)
+
+
+def test_other_machine(scale: Scale) -> None:
+    """Parts made on another machine, which is this one by ssh."""
+    tools = ["parallel", "sshd", "ssh", "ssh-keygen", "rsync"]
+    found = {it: shutil.which(it, path=f"{os.environ['PATH']}:/usr/sbin") or "" for it in tools}
+    if not all(found.values()):
+        leave_out(", ".join(it for it in tools if not found[it]))
+    try:
+        user = pwd.getpwuid(os.geteuid()).pw_name
+    except KeyError:
+        pass_over("a user who has a name")
+    started = listening(scale.folder, found, user)
+    if started.poll() is not None:
+        pass_over(f"an sshd that starts ({in_one_line(pipe(started.stderr).read())})")
+    try:
+        far(scale)
+    finally:
+        started.terminate()
+        started.wait(LIMIT)
+
+
+def in_one_line(said: bytes) -> str:
+    return " ".join(said.decode(errors="replace").split())
+
+
+def far(scale: Scale) -> None:
+    """Tests parts made on the machine to which ssh logs in, if it lets the test log in."""
+    login = ["ssh", "-F", f"{scale.folder}/ssh", "far"]
+    refused = run([*login, "true"])
+    if refused.status:
+        pass_over(f"a login by ssh ({in_one_line(refused.err)})")
+    both = ["--sshlogin", " ".join(login), "--sshloginfile", f"{scale.folder}/here"]
+    scale.parts(SUPPLIES, 8, 1, 2, "--jobs=1", *both)
+    assert "GNU_Parallel_worker" in text_of("asked"), "parts were made there"
+    assert os.listdir("home") == [], "files left there"
+
+
+def listening(folder: str, tools: dict[str, str], user: str) -> subprocess.Popen[bytes]:
+    """Returns an sshd that listens, or one that has ended."""
+    with socket.create_server(("127.0.0.1", 0)) as free:
+        port = free.getsockname()[1]
+    os.mkdir(f"{folder}/home")
+    for name in ["host", "user"]:
+        subprocess.run([tools["ssh-keygen"], "-q", "-N", "", "-f", f"{folder}/{name}"], check=True)
+    values = {"folder": folder, "port": port, "user": user}
+    for name, text in [("sshd", SSHD_CONFIG), ("ssh", SSH_CONFIG), ("login", LOGIN)]:
+        write(f"{folder}/{name}", text.format(**values))
+    write(f"{folder}/here", ":\n")
+    words = [tools["sshd"], "-D", "-e", "-f", f"{folder}/sshd"]
+    started = subprocess.Popen(words, stderr=subprocess.PIPE)
+    while started.poll() is None:
+        try:
+            socket.create_connection(("127.0.0.1", port)).close()
+            break
+        except ConnectionRefusedError:
+            time.sleep(0.05)
+    return started

@@ -1,0 +1,436 @@
+"""Tests the calls of the Python package on the tables of known.py, on examples/refused and on random texts, with files
+as paths, bytes, streams and compressed files, and with programs that print other lines than dnorm."""
+
+import bz2
+import contextlib
+import gzip
+import importlib.util
+import io
+import lzma
+import multiprocessing
+import os
+import pickle
+import random
+import re
+import signal
+from collections.abc import Callable
+from concurrent.futures import ThreadPoolExecutor
+from pathlib import Path
+
+import pytest
+from known import COSTS, ROADS, ROADS_CANON, rows
+from reading import COUNTED, Fault, Text, canonical, read
+from refusal_table import with_example
+from shared import ROOT, bytes_of, run, write
+from texts import lines_of, made, spelled
+
+import dnorm
+
+PACKAGE = f"{ROOT}/python/src"
+# How a test reads instances: the parameters of the fixture `reader`.
+READS = [pytest.mark.whole, pytest.mark.usefixtures("reader")]
+BOTH = pytest.mark.parametrize("reader", ["program", "library"], indirect=True)
+ALL = pytest.mark.parametrize("reader", ["program", "library", "numpy"], indirect=True)
+pytestmark = READS
+
+
+def has_numpy() -> bool:
+    """Whether numpy is found here."""
+    return importlib.util.find_spec("numpy") is not None
+
+
+COMPRESS: dict[str, Callable[[bytes], bytes]] = {".gz": gzip.compress, ".bz2": bz2.compress, ".xz": lzma.compress}
+REFUSED = f"{ROOT}/examples/refused"
+SEED, ROUNDS = 55, 150
+
+
+def shown_lines(shown: dnorm.Shown) -> str:
+    """Returns the lines that `dnorm show` prints."""
+    ends = {dnorm.LengthPair: "length {}", dnorm.CapacityPair: "total {}", dnorm.CostPair: "forced {} cost {} steps {}"}
+    heads = {it: getattr(shown, it) for it in ["kind", "nodes", "lines", "supplies", "source", "sink"]}
+    lines = [f"{name} {value}" for name, value in heads.items() if value is not None]
+    if shown.nodes is not None:
+        lines.append(f"pairs {len(shown.pairs)}")
+    lines += [f"pair {it.tail} {it.head} {ends[type(it)].format(*it[2:])}" for it in shown.pairs]
+    return "\n".join([*lines, ""])
+
+
+def told(call: Callable[[], object]) -> str:
+    """Returns the lines that the program prints where a call returns this, or else the kind and the line of the error
+    that the call raises."""
+    try:
+        answer = call()
+    except (dnorm.DnormError, TypeError, ValueError, MemoryError) as error:
+        return f"{type(error).__name__}: {error}"
+    if isinstance(answer, dnorm.Shown):
+        return shown_lines(answer)
+    if isinstance(answer, dnorm.Checked):
+        fits = f"fits {answer.fits}\n" if answer.fits else ""
+        return f"accepted {answer.kind}\n{fits}forms {' '.join(map(str, answer.forms)) or 'none'}\n"
+    return answer.decode() if isinstance(answer, bytes) else f"{answer}\n"
+
+
+def called(words: str, file: Callable[[str], dnorm.File]) -> object:
+    """Calls what a command line asks for. `file` returns the file of a name."""
+    options, names, rest = {"--form": "1", "--with": ""}, [], iter(words.replace("=", " ").split() or ["canon", "-"])
+    for word in rest:
+        if word in options:
+            options[word] = next(rest)
+        else:
+            names.append(word)
+    command, *files = names[0], *map(file, names[1:])
+    if command == "canon":
+        return dnorm.canon(files[0], int(options["--form"]))
+    if command == "compare":
+        return dnorm.compare(files[0], files[1])
+    if command == "show":
+        return dnorm.show(files[0])
+    return dnorm.check(files[0], file(options["--with"]) if options["--with"] else None)
+
+
+class Manner:
+    """A way to give texts: their files by the names of the texts, and the names that errors have. A name that is no
+    text's is the path of a missing file."""
+
+    def __init__(self, title: str, named: dict[str, bytes]) -> None:
+        self.title, self.named = title, named
+        for name, text in named.items():
+            write(self.shown(name), COMPRESS[title](text) if title in COMPRESS else text)
+
+    def file(self, name: str) -> dnorm.File:
+        if name not in self.named:
+            return name
+        if self.title == "bytes" or self.title == "path" and name == "-":
+            return self.named[name]
+        return io.BytesIO(self.named[name]) if self.title == "stream" else self.shown(name)
+
+    def shown(self, name: str) -> str:
+        if name not in self.named or self.title == "path":
+            return name
+        return name + self.title if self.title in COMPRESS else "-"
+
+
+MANNERS = ["path", "bytes", "stream", *COMPRESS]
+
+
+@pytest.mark.parametrize("title", MANNERS)
+def test_table(title: str) -> None:
+    """All rows of known.py that the program does not refuse as command lines."""
+    for words, named, out, err, status in rows():
+        if status != 3:
+            it = Manner(title, named)
+            wanted = out.decode()
+            for name in [*named, "missing"]:
+                if err.startswith(f"{name}:".encode()):
+                    wanted = f"Refused: {it.shown(name)}{err.decode()[len(name) : -1]}"
+            if status == 4:
+                wanted = "Read: missing: 31 Read (No such file or directory)"
+            assert told(lambda: called(words, it.file)) == wanted, f"{words} of {named}, by {it.title}"
+
+
+CALLS: dict[str, Callable[[dnorm.File], object]] = {
+    "check": dnorm.check,
+    "canon": dnorm.canon,
+    "canon_to": lambda file: dnorm.canon_to(file, io.BytesIO()),
+    "checksum": dnorm.checksum,
+    "show": dnorm.show,
+    "read": dnorm.read,
+    "compare, left": lambda file: dnorm.compare(file, ROADS),
+    "compare, right": lambda file: dnorm.compare(ROADS, file),
+    "check, companion": lambda file: dnorm.check(ROADS, file),
+}
+
+
+@BOTH
+def test_refused(tested: str) -> None:
+    """Every call with every text of examples/refused."""
+    numbers = []
+    for name in sorted(os.listdir(REFUSED)):
+        number, word = re.split("[-.]", name)[:2]
+        numbers.append(int(number))
+        with open(f"{REFUSED}/{name}", "rb") as file:
+            text = file.read()
+        line = run([tested, "check", f"{REFUSED}/{name}"]).err.decode().rpartition(f"{name}:")[2]
+        assert line.partition(": ")[2] == f"{int(number)} {word}\n", f"the refusal of {name}"
+        for it in [Manner(title, {name: text}) for title in MANNERS]:
+            for call, of in CALLS.items():
+                wanted = f"Refused: {it.shown(name)}:{line[:-1]}"
+                assert told(lambda: of(it.file(name))) == wanted, f"{call} of {name}, by {it.title}"
+    assert numbers == [it.number for it in with_example()], "the refusals in examples/refused"
+
+
+# What a program prints on standard error with its status, and what that is: only these lines are known.
+LINES = [
+    ("-:7: 17 SumTooLarge", 2, "Refused: -:7: 17 SumTooLarge"),
+    ("-:9223372036854775807: 21 TooLong", 2, "Refused: -:9223372036854775807: 21 TooLong"),
+    ("-:end: 18 NoProblem", 2, "Refused: -:end: 18 NoProblem"),
+    ("-: 34 CountTooLarge", 2, "Refused: -: 34 CountTooLarge"),
+    ("-: 35 NotInGraph 7", 2, "Refused: -: 35 NotInGraph 7"),
+    ("-: 36 NotKinds", 2, "Refused: -: 36 NotKinds"),
+    ("-: 30 Memory", 4, "Memory: -: 30 Memory"),
+    ("dnorm: 30 Memory", 4, "Memory: dnorm: 30 Memory"),
+    ("-: 31 Read", 4, "Read: -: 31 Read"),
+    ("-: 32 Endless", 4, "Endless: -: 32 Endless"),
+    ("out: 33 Write", 4, "Write: out: 33 Write"),
+]
+# Lines that no run prints, with their status.
+OTHER_LINES = [
+    ("", 2),
+    ("-:7: 17 SumTooLarge", 4),
+    ("-:7: 17 SumTooLarge", 3),
+    ("-:7: 17 SumTooSmall", 2),
+    ("-:7: 22 SumTooLarge", 2),
+    ("-:7: 17 SumTooLarge 7", 2),
+    ("-:7:17 SumTooLarge", 2),
+    ("-: 17 SumTooLarge", 2),
+    ("-:seven: 17 SumTooLarge", 2),
+    ("x:7: 17 SumTooLarge", 2),
+    ("out:7: 17 SumTooLarge", 2),
+    ("/dev/fd/99:7: 17 SumTooLarge", 2),
+    ("-:7: 17 SumTooLarge\n-:8: 17 SumTooLarge", 2),
+    ("-:7: 34 CountTooLarge", 2),
+    ("-: 34 CountTooLarge", 4),
+    ("-: 35 NotInGraph", 2),
+    ("-: 36 NotKinds 7", 2),
+    ("-: 30 Memory", 2),
+    ("-:7: 30 Memory", 4),
+    ("out: 30 Memory", 4),
+    ("dnorm: 31 Read", 4),
+    ("-: 33 Write", 4),
+    ("dnorm: bad command line", 3),
+    ("out of memory", 137),
+]
+
+
+def fake(name: str, body: str) -> str:
+    """Makes a program that says that it is dnorm, and does something else. Returns its path."""
+    write(name, f"#!/bin/bash\n[[ $1 != --version ]] || {{ echo dnorm 9; exit; }}\n{body}\n")
+    os.chmod(name, 0o755)
+    return os.path.abspath(name)
+
+
+def unexpected(line: str, status: int) -> str:
+    """Returns the error for a line that no run prints."""
+    return f"Unexpected: -: dnorm did not answer as it should (its status was {status}, and it printed {line!r})"
+
+
+def test_failures() -> None:
+    """What the calls make of the lines of failed runs: those that the help has, and others."""
+    program = fake("fails", 'cat > /dev/null; printf "%s" "$ERR" >&2; exit "$STATUS"')
+    rows = [(f"{line}\n", status, wanted) for line, status, wanted in LINES]
+    for line, status in [*OTHER_LINES, *(it[:2] for it in LINES)]:
+        rows.append((line, status, unexpected(line, status)))
+    for line, status in OTHER_LINES:
+        rows.append((f"{line}\n", status, unexpected(f"{line}\n", status)))
+    for line, status, wanted in rows:
+        os.environ.update(ERR=line, STATUS=str(status))
+        assert told(lambda: dnorm.canon(ROADS, program=program)) == wanted, f"{status} {line!r}"
+        assert told(lambda: dnorm.check(ROADS, program=program)) == wanted, f"{status} {line!r}"
+
+
+# Standard output that no run prints, by the call; with a status if that is not 0.
+OUTPUTS = {
+    "check": ["", "accepted sp\n", "accepted SP\nforms 1\n", "accepted sp\nforms 3\n", "accepted sp\nforms 1", "same\n"]
+    + [
+        "accepted sp\nfits sp\nforms 1\n",
+        "accepted sp\nfits ss\nforms 1\n",
+        "accepted sp\nforms 1\n\n",
+        "accepted sp\nforms 2 1\n",
+    ],
+    "show": [
+        "",
+        "kind ss\n",
+        "kind xs\nlines 1\n",
+        "kind ss\nlines x\n",
+        "kind ss\nlines 1\npairs 0\n",
+        "kind ss\nlines 1",
+    ]
+    + ["kind sp\nnodes 2\nlines 1\npairs 1\n", "kind sp\nnodes 2\nlines 1\npairs 0\npair 1 2 length 3\n"]
+    + ["kind sp\nnodes 2\nlines 1\npairs 1\npair 1 2 total 3\n", "kind max\nnodes 2\nlines 1\npairs 0\n"]
+    + [
+        "kind sp\nnodes 2\nlines 1\npairs 1\npair 1 2 length 3",
+        "kind sp\nnodes 2\nlines 1\npairs 1\npair 1 2 length \n",
+    ],
+    "compare": [
+        "",
+        "same",
+        "differ\n",
+        "differ kind sp xs\n",
+        "differ nodes 1 none\n",
+        "differ item 1 2\n",
+        "same\nsame\n",
+    ]
+    + ["differ pair 1 2 length 3\n", "differ pair 1 2 amount 3 cost 4\n", "differ supply 1 2\n", "differ nodes 1 2"],
+    "read": ["", "p sp 0 0", "p sp 0 1\n", "p sp 2 1\na 1 2 3\na 1 2 4\n", "p xs 0 0\n", "p sp 2 1\na 1 2\n"]
+    + [
+        "p sp 2 1\na 1 2 +3\n",
+        "p sp 2 1\na 1 2 1_0\n",
+        "p sp 2 1\nb 1 2 3\n",
+        "p sp 2 1\na 1 2 3 4\n",
+        "p sp 2 1\na 1 2 3",
+    ]
+    + [
+        f"p sp 2 1\na {it}\n"
+        for it in ["1-2 3", "1-2 3 4", "1 2 -", "1 2 --3", "1 2 3-", "1 a2 3", "1 2 3a", "1  2", "-"]
+    ]
+    + ["p sp 2 2\na 1 2 3\na 1 2\n4\n", "p sp 2 1\na 1 2 9223372036854775808\n", "p sp 2 1\nn 1 1\na 1 2 3\n"]
+    + [
+        "p max 2 0\nn 1 s\n",
+        "p max 2 0\nn 1 s\nn 2 x\n",
+        "p min 2 0\nn 1\n",
+        "p min 2 0\nx 1 2\n",
+        "p max 2 0\nn s 1\n",
+    ],
+}
+
+
+@ALL
+def test_outputs() -> None:
+    """The calls take no output that a run cannot print, and no answer with the status of another."""
+    program = fake("says", 'cat > /dev/null; printf "%s" "$OUT"; exit "$STATUS"')
+    calls: dict[str, Callable[[], object]] = {
+        "check": lambda: dnorm.check(ROADS, program=program),
+        "show": lambda: dnorm.show(ROADS, program=program),
+        "compare": lambda: dnorm.compare(ROADS, b"", program=program),
+        "read": lambda: dnorm.read(ROADS, program=program),
+    }
+    rows = [(call, out, 0) for call, outs in OUTPUTS.items() for out in outs]
+    rows += [("compare", "same\n", 1), ("compare", "differ nodes 1 2\n", 0), ("check", "accepted sp\nforms 1\n", 1)]
+    rows += [("read", "p sp 0 0\n", 1), ("show", "kind ss\nlines 1\n", 1)]
+    for call, out, status in rows:
+        os.environ.update(OUT=out, STATUS=str(status))
+        found = told(calls[call])
+        assert found.startswith("Unexpected: -: "), f"{call} does not take {out!r} with status {status}: {found}"
+    os.environ.update(OUT="accepted sp\nforms 1\n", STATUS="0")
+    found = told(lambda: dnorm.check(ROADS, b"", program=program))
+    assert found.startswith("Unexpected: -: "), f"check with a companion says that it fits: {found}"
+
+
+# Names of files. The bytes of some are not UTF-8, and some look like the line of a refusal or an option.
+NAMES = [
+    "a b",
+    " ",
+    "x\ny",
+    "-",
+    "--",
+    "-x",
+    "--form",
+    "a:7: 9 NotANumber",
+    "b: 31 Read",
+    "dnorm",
+    "out",
+    "é",
+    "\\",
+    "x" * 250,
+]
+
+
+def test_names() -> None:
+    """Files of odd names, as str, as paths and in a folder."""
+    for name in [*NAMES, os.fsdecode(b"\xff.gr"), os.fsdecode(b"a\x80\xfe\n")]:
+        write(name, ROADS)
+        files: list[str | Path] = [name, Path(name), f"./{name}", os.path.abspath(name)]
+        for file in files:
+            assert told(lambda: dnorm.check(file)) == "accepted sp\nforms none\n", f"check {file!r}"
+            assert told(lambda: dnorm.compare(ROADS_CANON, file)) == "same\n", f"compare {file!r}"
+            assert told(lambda: dnorm.check(file, file)) == f"Refused: {file}: 36 NotKinds", f"companion {file!r}"
+        write(name, b"x\n")
+        assert told(lambda: dnorm.check(name)) == f"Refused: {name}:1: 1 BadLine", f"check {name!r}"
+        dnorm.canon_to(ROADS, name)
+        assert bytes_of(name) == ROADS_CANON, f"canon_to {name!r}"
+    os.mkdir("folder")
+    reasons = {"": "No such file or directory", "folder": "Is a directory", "x/y": "No such file or directory"}
+    reasons |= {"a b/c": "Not a directory", "a\0b": "embedded null byte", "y" * 300: "File name too long"}
+    for name, reason in reasons.items():
+        wanted = f"Read: {name}: 31 Read ({reason})"
+        assert told(lambda: dnorm.check(name)) == wanted, f"check {name!r:.20}"
+        assert told(lambda: dnorm.compare(ROADS, name)) == wanted, f"compare with {name!r:.20}"
+    assert told(lambda: dnorm.compare(b"x", "missing")) == "Refused: -:1: 1 BadLine", "left before right"
+    found = told(lambda: dnorm.check(5))  # type: ignore[arg-type]
+    assert found == "TypeError: a file is a path, bytes, a binary stream or an instance, and not int", "a number"
+
+
+def end_at_once() -> None:
+    """Lets SIGTERM, by which a pool ends its processes, end this one. An exit could wait for another process."""
+    signal.signal(signal.SIGTERM, signal.SIG_DFL)
+
+
+def test_threads() -> None:
+    """Calls from several threads, and from several processes."""
+    texts = [b"p sp %d 0\n" % it for it in range(200)]
+    with ThreadPoolExecutor(8) as pool:
+        found = list(pool.map(lambda it: (dnorm.canon(it), str(dnorm.compare(it, io.BytesIO(texts[7])))), texts))
+    wanted = [(it, "same" if at == 7 else f"differ nodes {at} 7") for at, it in enumerate(texts)]
+    assert found == wanted, "calls from eight threads"
+    with multiprocessing.get_context("fork").Pool(4, end_at_once) as processes:
+        assert processes.map(dnorm.canon, texts) == texts, "calls from four processes"
+        error = told(lambda: processes.map(dnorm.canon, [*texts, b"x\n"]))
+        assert error == "Refused: -:1: 1 BadLine", "an error from another process"
+
+
+def test_errors() -> None:
+    """Errors can be pickled, and what they say of themselves."""
+    found: list[dnorm.DnormError] = [
+        dnorm.Refused("a.gr", *it) for it in [(3, 13, "NodeOutOfRange"), (None, 18, "NoProblem")]
+    ]
+    found += [dnorm.Refused("s.ss", None, 35, "NotInGraph", 7), dnorm.Memory("a.gr"), dnorm.Endless("a.gr")]
+    found += [dnorm.Read("a.gr"), dnorm.Read("a.gr", "why"), dnorm.Write("out", "why"), dnorm.NoProgram("dnorm", "why")]
+    found += [dnorm.Killed("a.gr", 9), dnorm.Unexpected("a.gr", "why")]
+    for error in found:
+        again = pickle.loads(pickle.dumps(error))
+        assert (type(again), str(again), vars(again)) == (type(error), str(error), vars(error)), f"{error!r}, pickled"
+    lines = ["a.gr:3: 13 NodeOutOfRange", "a.gr:end: 18 NoProblem", "s.ss: 35 NotInGraph 7", "a.gr: 30 Memory"]
+    lines += ["a.gr: 32 Endless", "a.gr: 31 Read", "a.gr: 31 Read (why)", "out: 33 Write (why)"]
+    lines += ["dnorm: cannot be run (why)", "a.gr: dnorm was ended by signal 9 (SIGKILL)"]
+    lines += ["a.gr: dnorm did not answer as it should (why)"]
+    assert [str(it) for it in found] == lines, "lines of errors"
+    first = dnorm.Refused("a.gr", 3, 13, "NodeOutOfRange")
+    assert first.sentence == "A node is not in 1 to NODES; in a companion, below 1.", "a sentence"
+    conditions = [bool(dnorm.compare(ROADS, it)) for it in [ROADS_CANON, COSTS]]
+    assert conditions == [True, False], "comparisons as conditions"
+
+
+def rebuilt(it: dnorm.Instance) -> bytes:
+    """Returns the canonical text that an instance was read from."""
+    heads: list[str] = []
+    if isinstance(it, dnorm.Min):
+        heads = [f"n {node} {flow}" for node, flow in it.supplies.items()]
+    if isinstance(it, dnorm.Max):
+        heads = [f"n {it.source} s", f"n {it.sink} t"]
+    names = COLUMNS[it.kind].split()
+    letter = COUNTED[it.kind]
+    items = [f"{letter} {' '.join(map(str, row))}" for row in zip(*(getattr(it, name).tolist() for name in names))]
+    problem = f"p {it.kind} {it.nodes}" if isinstance(it, dnorm.Graph) else f"p aux sp {it.kind}"
+    return "\n".join([f"{problem} {len(items)}", *heads, *items, ""]).encode()
+
+
+COLUMNS = {
+    "min": "tails heads lows caps costs",
+    "max": "tails heads capacities",
+    "sp": "tails heads lengths",
+    "ss": "sources",
+    "p2p": "sources targets",
+    "co": "ids xs ys",
+}
+
+
+@ALL
+def test_columns() -> None:
+    """The columns of instances: random ones, and ones whose texts have many pieces."""
+    chance = random.Random(SEED)
+    texts: list[Text] = []
+    while len(texts) < ROUNDS:
+        text = made(chance, chance.choice(list(COLUMNS)))
+        with contextlib.suppress(Fault):
+            texts.append(read(spelled(chance, lines_of(chance, text))))
+    large = Text("min", 5000, flows={it: it for it in range(1, 5001)})
+    large.items = [(it, it, 0, 1, -it) for it in range(1, 5001)]
+    texts += [large, Text("co", items=[(it, -it, it) for it in range(1, 30_000)])]
+    for text in texts:
+        given = spelled(chance, lines_of(chance, text))
+        for form in [1, 2]:
+            found = dnorm.read(given, form)
+            assert rebuilt(found) == canonical(text, form), f"read {given!r}, {form}"
+            kinds = {type(getattr(found, it)).__name__ for it in COLUMNS[text.kind].split()}
+            assert kinds == {"ndarray" if has_numpy() else "memoryview"}, "what columns are"
+    assert repr(dnorm.read(ROADS)) == "<dnorm.Sp: 3 nodes, 5 arcs>", "an instance prints"

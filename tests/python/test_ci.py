@@ -1,0 +1,157 @@
+"""Tests the files for CI services: the steps of share/ci/github.yml run on a repository with texts, with the files of a
+release that is made of the tested program and the package; and the hook in .pre-commit-hooks.yaml checks files as
+pre-commit calls it."""
+
+import os
+import re
+import shutil
+import tarfile
+import textwrap
+from xml.etree import ElementTree
+
+from known import ROADS
+from needs import leave_out
+from shared import ROOT, Answer, listed, run, text_of, write
+from test_calls import READS
+
+pytestmark = READS
+WORKFLOW = f"{ROOT}/share/ci/github.yml"
+HOOKS = f"{ROOT}/.pre-commit-hooks.yaml"
+VERSION = "1.2.3"
+# A step that runs commands, and a value of the job's environment.
+STEP = re.compile(r"^ +run: \|\n((?: {10}.*\n)+)", re.M)
+VALUE = re.compile(r"^ {6}(\w+): (\S+)$", re.M)
+FIELD = re.compile(r"^[- ] (\w+): (.*)$", re.M)
+
+
+def make_release(tested: str) -> None:
+    """Makes the files of a release in the folder `release`."""
+    os.mkdir("release")
+    name = f"dnorm-{VERSION}-x86_64-linux"
+    with tarfile.open(f"release/{name}.tar.gz", "w:gz") as archive:
+        archive.add(os.path.realpath(tested), f"{name}/dnorm")
+        archive.add(f"{ROOT}/dnorm-files", f"{name}/dnorm-files")
+        for _, place, _ in listed():
+            if place.startswith("python/src/"):
+                archive.add(f"{ROOT}/{place}", f"{name}/{place}")
+    sums = run(["bash", "-c", "cd release && sha256sum dnorm-*"]).out
+    write("release/SHA256SUMS", sums)
+
+
+class Runner:
+    """Runs the steps of the workflow as the service does, in the folder `texts`."""
+
+    def __init__(self) -> None:
+        text = text_of(WORKFLOW)
+        self.steps = [textwrap.dedent(it) for it in STEP.findall(text)]
+        here = os.getcwd()
+        self.environment = {it: value for it, value in os.environ.items() if it not in ("DNORM", "PYTHONPATH")}
+        self.environment |= dict(VALUE.findall(text))
+        self.environment |= {"RELEASE": f"file://{here}/release", "VERSION": VERSION, "PYTHONDONTWRITEBYTECODE": "1"}
+        self.environment |= {"RUNNER_TEMP": f"{here}/temp", "GITHUB_PATH": f"{here}/path", "GITHUB_ENV": f"{here}/env"}
+
+    def run(self) -> list[Answer]:
+        """Returns what the steps print, up to the first that fails."""
+        shutil.rmtree("temp", ignore_errors=True)
+        os.mkdir("temp")
+        found: list[Answer] = []
+        for name in ["path", "env"]:
+            write(name, "")
+        for step in self.steps:
+            added = dict(it.split("=", 1) for it in text_of("env").splitlines())
+            path = ":".join([*text_of("path").splitlines(), os.environ["PATH"]])
+            environment = {**self.environment, **added, "PATH": path}
+            found.append(run(["bash", "-e", "-c", step], cwd="texts", env=environment))
+            if found[-1].status:
+                break
+        return found
+
+
+def test_workflow(tested: str) -> None:
+    """The steps of the workflow, and that it fetches the release of this version."""
+    version = run([tested, "--version"]).out.decode().split()[1]
+    # Between releases, it fetches the last one.
+    if "-" not in version:
+        assert dict(VALUE.findall(text_of(WORKFLOW)))["VERSION"] == version, "the release that it fetches"
+    if not shutil.which("curl"):
+        leave_out("curl")
+    make_release(tested)
+    os.makedirs("texts/below")
+    write("texts/below/roads.gr", ROADS)
+    runner = Runner()
+    assert len(runner.steps) == 2, "the steps"
+    assert re.search(r"checkout@.*\n +with:\n +lfs: true\n", text_of(WORKFLOW)), "it fetches Git LFS"
+    found = runner.run()
+    wanted = Answer(b"", b"1 accepted, 0 refused, 0 failed\n", 0)
+    assert (found[-1], len(found)) == (wanted, 2), "a repository of accepted texts"
+    write("texts/bad.gr", b"p sp 1 1\n")
+    lines = (
+        b"::error file=bad.gr,title=dnorm%3A 20 TooFewLines::./bad.gr:end: 20 TooFewLines%0AThere are fewer counted "
+    )
+    lines += b"lines than declared.%0Adeclared 1, found 0: only a, s, q and v lines count\n"
+    wanted = Answer(lines, b"1 accepted, 1 refused, 0 failed\n", 2)
+    assert runner.run()[-1] == wanted, "a repository with a refused text"
+    suite = ElementTree.parse("temp/dnorm.xml").find("testsuite")
+    assert (suite is not None and suite.get("failures")) == "1", "its report"
+    shutil.rmtree("texts/below")
+    os.remove("texts/bad.gr")
+    assert runner.run()[-1].status == 4, "a repository without texts"
+    write(f"release/dnorm-{VERSION}-x86_64-linux.tar.gz", b"other")
+    found = runner.run()
+    assert (len(found), found[0].status) == (1, 1), "a release with another checksum"
+
+
+# Names of files, and whether the hook for pre-commit looks at them.
+CHOSEN = {
+    "a.gr": True,
+    "a/b.min.gz": True,
+    "a.co.xz": True,
+    "A.GR": True,
+    "a.Gr.BZ2": True,
+    "a.gr.zip": True,
+    "a.co.zst": True,
+    "a.min.Z": True,
+    "a.gr.zipped": True,
+    "a.gr.gz.gz": True,
+    "a.gr.lzma": True,
+    "a.gr.": True,
+    "a.gr~": True,
+    "a.gr ": True,
+    "a.GR (1).gz": True,
+    "a.co-op.txt": False,
+    "a.co-op/notes": False,
+    "a.gr.d/notes.txt": False,
+    "jquery.min.js": False,
+    "page.MIN.css.map": False,
+    "a.min.jsx": True,
+    "agr": False,
+    "a.grx": False,
+    "a.grz": True,
+    "a.gz": False,
+}
+
+
+def test_pre_commit() -> None:
+    """The hook for pre-commit: which files it names, and how it is called."""
+    fields = {name: value.strip("'") for name, value in FIELD.findall(text_of(HOOKS))}
+    wanted = {"id": "dnorm", "language": "script", "require_serial": "true"}
+    assert {it: fields.get(it) for it in wanted} == wanted, "the hook"
+    found_ = {it: bool(re.search(fields["files"], it) and not re.search(fields["exclude"], it)) for it in CHOSEN}
+    assert found_ == CHOSEN, "its files"
+    assert [fields["types"], fields["types_or"]] == ["[]", "[file, symlink]"], "its types"
+    script = f"{ROOT}/{fields['entry']}"
+    environment = {it: value for it, value in os.environ.items() if it != "PYTHONPATH"}
+    environment["PYTHONDONTWRITEBYTECODE"] = "1"
+    write("a.gr", ROADS)
+    write("-b.gr", b"x\n")
+    found = run([script, "a.gr"], env=environment)
+    assert found == Answer(b"", b"1 accepted, 0 refused, 0 failed\n", 0), "an accepted file"
+    found = run([script, "a.gr", "-b.gr"], env=environment)
+    assert found == Answer(b"-b.gr:1: 1 BadLine\n", b"1 accepted, 1 refused, 0 failed\n", 2), "a refused file"
+    write("a.max", ROADS)
+    line = b"a.max: accepted sp, its ending is that of max\n"
+    err = b"1 accepted, 0 refused, 0 failed, 1 file of another kind than its ending\n"
+    assert run([script, "a.max"], env=environment) == Answer(line, err, 0), "another kind"
+    line = b"a.max: 31 Read (accepted sp, its ending is that of max)\n"
+    found = run([script, "--strict", "a.max"], env=environment)
+    assert found == Answer(line, b"0 accepted, 0 refused, 1 failed\n", 4), "another kind with --strict"

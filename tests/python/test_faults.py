@@ -1,0 +1,406 @@
+"""Tests the calls of the Python package where something fails: compressed files, streams and targets, a program that is
+missing, another one or killed, little memory, and processes whose standard streams are closed."""
+
+import contextlib
+import gzip
+import io
+import os
+import signal
+import stat
+import subprocess
+import sys
+import time
+from collections.abc import Callable
+from pathlib import Path
+from typing import Any
+
+from known import ROADS, ROADS_CANON
+from shared import LIMIT, bytes_of, run, write
+from test_calls import BOTH, CALLS, COMPRESS, PACKAGE, READS, fake, told
+
+import dnorm
+
+pytestmark = [*READS, BOTH]
+
+
+class Parts:
+    """A stream that returns these pieces, one after another, and raises those that are exceptions."""
+
+    def __init__(self, *pieces: object) -> None:
+        self.pieces = list(pieces)
+
+    def read(self, size: int, /) -> bytes:
+        piece = self.pieces.pop(0) if self.pieces else b""
+        if isinstance(piece, Exception):
+            raise piece
+        # Some tests return what is no piece.
+        return piece  # type: ignore[return-value]
+
+
+def test_compressed() -> None:
+    """Compressed files: of several streams and with zeros behind them. Cut after each byte, with each byte
+    changed, and with other bytes behind them they cannot be read, even if their text seems to have a fault."""
+    for end, compress in COMPRESS.items():
+        data, name = compress(ROADS), f"t{end}"
+        for whole in [data, compress(ROADS[:30]) + compress(b"") + compress(ROADS[30:]), data + bytes(8)]:
+            write(name, whole)
+            assert told(lambda: dnorm.canon(name)) == ROADS_CANON.decode(), f"{end} of {len(whole)} bytes"
+        for at in range(len(data)):
+            write(name, data[:at])
+            wanted = f"Read: {name}: 31 Read (the compressed data end too early)"
+            assert told(lambda: dnorm.check(name)) == wanted, f"{end} of {at} bytes"
+            write(name, data[:at] + bytes([data[at] ^ 85]) + data[at + 1 :])
+            found = told(lambda: dnorm.canon(name))
+            # In the header of gzip, no checksum secures the time and the system.
+            is_right = found.startswith("Read: ") or end == ".gz" and 4 <= at < 10 and found == ROADS_CANON.decode()
+            assert is_right, f"{end} with another byte {at}: {found}"
+        for other in [b"x", data[:-3], b"\0x"]:
+            write(name, data + other)
+            found = told(lambda: dnorm.compare(name, ROADS))
+            assert found.startswith(f"Read: {name}: 31 Read ("), f"{end} and {other!r}: {found}"
+    large = b"".join(b"c %d\n" % it for it in range(200_000)) + ROADS
+    for end, compress in COMPRESS.items():
+        write(f"large{end}", compress(large))
+        assert told(lambda: dnorm.canon(f"large{end}")) == ROADS_CANON.decode(), f"a large {end}"
+        write(f"zeros{end}", compress(b"c" * 50_000_000 + b"\n" + ROADS))
+        assert told(lambda: dnorm.canon(f"zeros{end}")) == ROADS_CANON.decode(), f"a long line in {end}"
+
+
+def test_streams() -> None:
+    """Streams: in pieces, from where they are, and failing. A fault of a whole line stands if the stream fails
+    later; nothing else is told of such a text."""
+    accepted, error = "accepted sp\nforms none\n", OSError(5, "Input/output error")
+    failed = "Read: -: 31 Read (Input/output error)"
+    rows: list[tuple[Parts, str]] = [
+        (Parts(*(bytes([it]) for it in ROADS)), accepted),
+        (Parts(bytearray(ROADS[:9]), memoryview(ROADS)[9:]), accepted),
+        (Parts(), "Refused: -:end: 18 NoProblem"),
+        (Parts(error), failed),
+        (Parts(ROADS, error), failed),
+        (Parts(ROADS[:9], error), failed),
+        (Parts(ROADS + b"z\n", error), "Refused: -:9: 1 BadLine"),
+        (Parts(ROADS + b"z", error), failed),
+        (Parts(ROADS + b"a 9", error), failed),
+        (Parts(b"c " * 200_000, error), failed),
+        (Parts(b"z\n" * 200_000, error), "Refused: -:1: 1 BadLine"),
+        (Parts(ROADS, EOFError()), "Read: -: 31 Read (EOFError)"),
+        (Parts(ROADS, BrokenPipeError(32, "Broken pipe")), "Read: -: 31 Read (Broken pipe)"),
+        (Parts(ROADS, KeyError("key")), "Read: -: 31 Read ('key')"),
+        (Parts(ROADS, None), "Read: -: 31 Read (the stream has no data yet, and does not wait for them)"),
+        (Parts(ROADS, "text"), "TypeError: the stream is not binary: its read() returned str"),
+        (Parts(ROADS, 5), "TypeError: the stream is not binary: its read() returned int"),
+        (Parts(ROADS, MemoryError()), "MemoryError: "),
+    ]
+    for stream, wanted in rows:
+        parts = list(stream.pieces)
+        assert told(lambda: dnorm.check(stream)) == wanted, f"check of {parts!r:.80}"
+        as_right = "same\n" if wanted == accepted else wanted
+        assert told(lambda: dnorm.compare(ROADS, Parts(*parts))) == as_right, f"compare with {parts!r:.80}"
+        first = told(lambda: dnorm.compare(Parts(*parts), b"x\n"))
+        assert first == ("Refused: -:1: 1 BadLine" if wanted == accepted else wanted), f"compare of {parts!r:.80}"
+        if not wanted.startswith(("TypeError", "MemoryError")):
+            found = told(lambda: dnorm.compare(b"x\n", Parts(*parts)))
+            assert found == "Refused: -:1: 1 BadLine", f"left before {parts!r:.80}"
+
+
+def test_open_files() -> None:
+    """Open files as streams: their names, where they are read from, and text files."""
+    accepted = "accepted sp\nforms none\n"
+    write("named.gr", b"x\n" + ROADS)
+    with open("named.gr", "rb") as file:
+        assert told(lambda: dnorm.check(file)) == "Refused: named.gr:1: 1 BadLine", "a file"
+    with open("named.gr", "rb") as file:
+        file.read(2)
+        assert told(lambda: dnorm.check(file)) == accepted, "a file past its first line"
+        assert not file.closed, "it is not closed"
+    with open("named.gr", encoding="utf-8") as text:
+        found = told(lambda: dnorm.check(text))  # type: ignore[arg-type]
+        assert found == "TypeError: the stream is not binary: its read() returned str", "a text stream"
+
+
+class Takes(io.RawIOBase):
+    """A stream that takes at most `size` bytes at once, and fails after `most` bytes. If it does not wait, it says that
+    it takes none."""
+
+    def __init__(self, size: int, most: int, waits: bool = True) -> None:
+        super().__init__()
+        self.taken, self.size, self.most, self.waits = bytearray(), size, most, waits
+
+    def writable(self) -> bool:
+        return True
+
+    def write(self, data: Any, /) -> int | None:
+        if len(self.taken) >= self.most:
+            raise OSError(28, "No space left on device")
+        self.taken += data[: self.size]
+        return min(len(data), self.size) if self.waits else None
+
+
+def test_targets() -> None:
+    """Targets: files, compressed files, streams and devices. A path has the whole text or what it had before."""
+    for end in ["", *COMPRESS]:
+        names: list[str | Path] = [f"new{end}", Path(f"old{end}"), f"link{end}"]
+        for name in names:
+            if not str(name).startswith("new"):
+                write(f"old{end}", b"old")
+                os.chmod(f"old{end}", 0o604)
+            if str(name).startswith("link"):
+                os.symlink(f"old{end}", name)
+            dnorm.canon_to(ROADS, name)
+            assert told(lambda: dnorm.canon(name)) == ROADS_CANON.decode(), f"canon_to {name}"
+        assert stat.S_IMODE(os.stat(f"old{end}").st_mode) == 0o604, "the mode of a file"
+        assert os.path.islink(f"link{end}"), "a link"
+        first = bytes_of(f"new{end}")
+        dnorm.canon_to(f"new{end}", f"new{end}")
+        assert bytes_of(f"new{end}") == first, f"{end} in place, with the same bytes"
+        files: list[dnorm.File] = [b"x", "missing", Parts(ROADS, OSError(5, "I/O")), Parts("text")]
+        for file in files:
+            found = told(lambda: dnorm.canon_to(file, f"old{end}"))
+            assert not found.startswith("None") and bytes_of(f"old{end}") == first, f"nothing is written: {found}"
+    before = os.umask(0o077)
+    dnorm.canon_to(ROADS, "private")
+    os.umask(before)
+    assert stat.S_IMODE(os.stat("private").st_mode) == 0o600, "the mode by umask"
+    os.symlink("/dev/full", "full.gz")
+    rows = {"/dev/full": "", "full.gz": " (No space left on device)", ".": " (Is a directory)"}
+    rows |= {"no/x": " (No such file or directory)", "private/x": " (Not a directory)"}
+    for path, reason in rows.items():
+        assert told(lambda: dnorm.canon_to(ROADS, path)) == f"Write: {path}: 33 Write{reason}", f"canon_to {path}"
+    assert [it for it in os.listdir(".") if it.startswith(".")] == [], "what is left"
+    assert told(lambda: dnorm.canon_to(ROADS, "/dev/null")) == "None\n", "/dev/null"
+    os.mkfifo("pipe")
+    with subprocess.Popen(["cat", "pipe"], stdout=subprocess.PIPE) as cat:
+        dnorm.canon_to(ROADS, "pipe")
+        assert cat.communicate()[0] == ROADS_CANON, "a pipe"
+
+
+FORMED: list[Callable[[dnorm.File, int], object]] = [dnorm.canon, dnorm.checksum, dnorm.read]
+
+
+def test_sinks() -> None:
+    """Streams as targets: with short writes, full, failing, and such as do not wait."""
+    text = b"p sp 99999 99999\n" + b"".join(b"a %d 1 1\n" % it for it in range(1, 100_000))
+    for size, given, wanted in [(1, ROADS, ROADS_CANON), (1000, text, text), (10**7, text, text)]:
+        taken = Takes(size, 10**7)
+        dnorm.canon_to(given, taken)
+        assert taken.taken == wanted, f"a stream that takes {size} bytes"
+    full = "Write: -: 33 Write (No space left on device)"
+    assert told(lambda: dnorm.canon_to(text, Takes(10**6, 100_000))) == full, "a full stream"
+    waits = "Write: -: 33 Write (the stream takes no data now, and does not wait)"
+    assert told(lambda: dnorm.canon_to(text, Takes(9, 10**7, False))) == waits, "a stream that does not wait"
+    with open("/dev/full", "wb", buffering=0) as file:
+        assert told(lambda: dnorm.canon_to(text, file)) == full.replace("-", "/dev/full"), "a full device"
+    found = told(lambda: dnorm.canon_to(ROADS, io.StringIO()))  # type: ignore[arg-type]
+    assert found == "TypeError: string argument expected, got 'bytes'", "a text stream"
+    forms: list[Any] = [0, 3, "1", None]
+    for form in forms:
+        error = f"ValueError: form is 1 or 2, and not {form!r}"
+        for call in FORMED:
+            assert told(lambda: call(ROADS, form)) == error, f"form {form!r}"
+        found = told(lambda: dnorm.canon_to(ROADS, "none", form))
+        assert (found, os.path.exists("none")) == (error, False), f"form {form!r}"
+
+
+NONE = "there is no such program"
+WHERE = "the wheels for Linux on x86-64 and ARM bring it, and docs/FILES.md names other ways"
+# Where the program is looked for: the argument, $DNORM, PATH, and the error if it is not found.
+PLACES: list[tuple[str | None, str | None, str, str]] = [
+    ("bin/dnorm", None, "/none", ""),
+    ("dnorm", "/none", "bin", ""),
+    (None, "bin/dnorm", "/none", ""),
+    (None, "dnorm", "bin", ""),
+    (None, None, "/none:bin", ""),
+    (None, "", "bin", ""),
+    ("/none", "bin/dnorm", "bin", f"NoProgram: /none: cannot be run ({NONE})"),
+    ("bin", "bin/dnorm", "bin", f"NoProgram: bin: cannot be run ({NONE})"),
+    ("bin/plain", None, "bin", "NoProgram: bin/plain: cannot be run (the file cannot be run)"),
+    (None, "bin/plain", "bin", "NoProgram: bin/plain: cannot be run (the file cannot be run, and $DNORM names it)"),
+    (None, "/none", "bin", f"NoProgram: /none: cannot be run ({NONE}, and $DNORM names it)"),
+    (None, None, "/none", f"NoProgram: dnorm: cannot be run ({NONE} on PATH, and $DNORM names none; {WHERE})"),
+]
+
+
+def test_places(tested: str) -> None:
+    """Where the program is looked for."""
+    os.mkdir("bin")
+    os.symlink(tested, "bin/dnorm")
+    write("bin/plain", b"")
+    kept = dict(os.environ)
+    for program, named, path, error in PLACES:
+        os.environ["PATH"] = path
+        os.environ.pop("DNORM")
+        if named is not None:
+            os.environ["DNORM"] = named
+        found = told(lambda: dnorm.check(ROADS, program=program))
+        os.environ.update(kept)
+        assert found == (error or "accepted sp\nforms none\n"), f"program {program}, $DNORM {named}, PATH {path}"
+    assert f"dnorm {dnorm.version()}\n" == run([tested, "--version"]).out.decode(), "the version"
+
+
+def test_others() -> None:
+    """Programs that are not dnorm, and runs that are killed. Nothing of their output is taken."""
+    for name, body in {"empty": "", "silent": "#!/bin/bash\n", "dies": "#!/bin/bash\nkill -9 $$\n"}.items():
+        write(name, body)
+        os.chmod(name, 0o755)
+    says = "and dnorm prints its name and version"
+    rows = {
+        os.path.abspath("empty"): "(Exec format error)",
+        os.path.abspath("silent"): f"(for --version it printed '', {says})",
+        "/bin/cat": f"(for --version it printed '{run(['cat', '--version']).out.decode().splitlines()[0]}', {says})",
+    }
+    for program, reason in rows.items():
+        found = told(lambda: dnorm.canon(ROADS, program=program))
+        assert found == f"NoProgram: {program}: cannot be run {reason}", f"{program} as the program"
+    found = told(lambda: dnorm.version(program="./dies"))
+    assert found == "Killed: dnorm: dnorm was ended by signal 9 (SIGKILL)", "a version that is killed"
+    bodies = {
+        "killed": ("kill -9 $$", "9 (SIGKILL)"),
+        "early": ("head -c 9 > /dev/null; kill -TERM $$", "15 (SIGTERM)"),
+        "half": (r'cat > /dev/null; printf "p sp 3 5\na 1 2"; kill -SEGV $$', "11 (SIGSEGV)"),
+        "odd": ("kill -40 $$", "40"),
+    }
+    write("kept", b"old")
+    for name, (body, number) in bodies.items():
+        program, wanted = fake(name, body), f"Killed: -: dnorm was ended by signal {number}"
+        texts: list[dnorm.File] = [ROADS, ROADS * 50_000, io.BytesIO(ROADS)]
+        for text in texts:
+            assert told(lambda: dnorm.canon(text, program=program)) == wanted, f"canon is {name}"
+        assert told(lambda: dnorm.read(ROADS, program=program)) == wanted, f"read is {name}"
+        assert told(lambda: dnorm.canon_to(ROADS, "kept", program=program)) == wanted, f"canon_to is {name}"
+        assert bytes_of("kept") == b"old", f"a file after canon_to is {name}"
+
+
+def test_limits(tested: str) -> None:
+    """Runs with little memory, and with a limit on the size of files, by which writing a file fails halfway."""
+    count = 999_999
+    write("large.gr", f"p sp {count} {count}\n" + "".join(f"a {it} 1 1\n" for it in range(1, count + 1)))
+    little = fake("little", f'ulimit -v 24576; exec "{tested}" "$@"')
+    for call, of in CALLS.items():
+        if call in ["check", "canon", "canon_to", "checksum", "show", "read", "compare, left"]:
+            found = told(lambda: of_program(of, "large.gr", little))
+            assert found == "Memory: large.gr: 30 Memory", f"{call} with little memory"
+    short = fake("short", f'ulimit -f 1; exec "{tested}" "$@"')
+    write("kept", b"old")
+    found = told(lambda: dnorm.canon_to("large.gr", "kept", program=short))
+    assert found.startswith(("Killed: large.gr", "Write: kept")), f"a file that grows too large: {found}"
+    assert (bytes_of("kept"), [it for it in os.listdir(".") if it[0] == "."]) == (b"old", []), "what is left"
+
+
+def of_program(call: Callable[[dnorm.File], object], file: dnorm.File, program: str) -> object:
+    """Calls with another program, and without the library."""
+    kept = {it: os.environ[it] for it in ["DNORM", "DNORM_LIBRARY"]}
+    os.environ.update(DNORM=program, DNORM_LIBRARY="none")
+    try:
+        return call(file)
+    finally:
+        os.environ.update(kept)
+
+
+# Calls in a process of its own, which write what they lead to into a file; and the arguments are the closed streams.
+CLOSED = """
+import os, sys
+for fd in map(int, sys.argv[1:]):
+    os.close(fd)
+import dnorm
+answers = [dnorm.compare("g.gr", "h.gr"), dnorm.check("g.gr", "s.ss"), dnorm.compare("g.gr.gz", b"p sp 3 0\\n")]
+dnorm.canon_to("g.gr", "new.gr")
+answers += [dnorm.compare("new.gr", "g.gr")]
+with open("answers", "w") as file:
+    print(*answers, sep="\\n", file=file)
+"""
+# A process in which the status of a child is lost, and one that is interrupted.
+LOST = """
+import dnorm, signal
+signal.signal(signal.SIGCHLD, signal.SIG_IGN)
+for text in [b"p sp 0 0\\n", b"x\\n"]:
+    try:
+        print(dnorm.canon(text))
+    except dnorm.Unexpected as error:
+        print(error)
+"""
+INTERRUPTED = """
+import dnorm, sys
+try:
+    dnorm.canon_to(b"p sp 0 0\\n", "new.gr", program=sys.argv[1])
+except KeyboardInterrupt:
+    print("interrupted")
+"""
+
+
+# A process that checks a compressed text, and says how much memory it took, in kB.
+LARGE = """
+import dnorm, resource, sys
+dnorm.check("small.gr" + sys.argv[1])
+before = resource.getrusage(resource.RUSAGE_SELF).ru_maxrss
+dnorm.check("large.gr" + sys.argv[1])
+print(resource.getrusage(resource.RUSAGE_SELF).ru_maxrss - before)
+"""
+
+
+def test_memory() -> None:
+    """A compressed text of 200 MB takes little memory."""
+    for end, compress in COMPRESS.items():
+        write(f"small.gr{end}", compress(ROADS))
+        write(f"large.gr{end}", compress(b"c" * 10_000_000) * 20 + compress(b"\n" + ROADS))
+        out = python(LARGE, end, stdout=subprocess.PIPE).communicate(timeout=LIMIT)[0]
+        assert 0 <= int(out) < 30_000, f"memory of a large text in {end}: {out!r} kB"
+
+
+# A process in which the standard library lacks the formats, as in a Python that was built without their libraries.
+WITHOUT = """
+import sys
+sys.modules.update(zlib=None, bz2=None, lzma=None, gzip=None)
+import dnorm
+print(dnorm.check("roads.gr").kind)
+for end in [".gz", ".bz2", ".xz"]:
+    for call in [lambda: dnorm.check("roads.gr" + end), lambda: dnorm.canon_to("roads.gr", "new" + end)]:
+        try:
+            print(call())
+        except dnorm.DnormError as error:
+            print(type(error).__name__)
+"""
+
+
+def test_formats() -> None:
+    """A Python that lacks the modules for compressed files."""
+    for end in ["", *COMPRESS]:
+        write(f"roads.gr{end}", COMPRESS[end](ROADS) if end else ROADS)
+    out = python(WITHOUT, stdout=subprocess.PIPE).communicate(timeout=LIMIT)[0]
+    assert out == b"sp\n" + b"Read\nWrite\n" * 3, "a Python without formats"
+    assert sorted(os.listdir(".")) == sorted(f"roads.gr{end}" for end in ["", *COMPRESS]), "what is left"
+
+
+def python(code: str, *words: str, **more: Any) -> "subprocess.Popen[bytes]":
+    """Starts this Python on this code."""
+    return subprocess.Popen([sys.executable, "-c", code, *words], env={**os.environ, "PYTHONPATH": PACKAGE}, **more)
+
+
+def test_processes() -> None:
+    """Processes whose standard streams are closed, that lose the status of a child, and that are interrupted."""
+    texts = {"g.gr": ROADS, "h.gr": b"p sp 2 0\n", "s.ss": b"p aux sp ss 0\n"}
+    for name, text in texts.items():
+        write(name, text)
+        write(f"{name}.gz", gzip.compress(text))
+    wanted = b"differ nodes 3 2\nChecked(kind='sp', fits='ss', forms=())\ndiffer pair 1 2 length 3 none\nsame\n"
+    for closed in ["", "0", "1", "2", "0 1", "0 2", "1 2", "0 1 2"]:
+        write("answers", b"")
+        python(CLOSED, *closed.split()).wait(LIMIT)
+        assert bytes_of("answers") == wanted, f"without streams {closed}"
+    out = python(LOST, stdout=subprocess.PIPE).communicate(timeout=LIMIT)[0]
+    line = b"-: dnorm did not answer as it should (its status is lost, since SIGCHLD is ignored or something else"
+    assert [it.startswith(line) for it in out.splitlines()] == [True, True], "the status is lost"
+    os.mkdir("empty")
+    # This program starts its work once it has the whole text. Before, an interrupt can come while Python starts it.
+    slow = fake("slow", "cat > /dev/null; echo $$ > started; exec sleep 60")
+    process = python(INTERRUPTED, slow, stdout=subprocess.PIPE, cwd="empty")
+    while process.poll() is None and not (os.path.exists("empty/started") and bytes_of("empty/started")):
+        time.sleep(0.01)
+    # A signal just before a call of the system waits for its end, so another one may be needed.
+    while process.poll() is None:
+        process.send_signal(signal.SIGINT)
+        with contextlib.suppress(subprocess.TimeoutExpired):
+            process.wait(1)
+    out = process.communicate(timeout=LIMIT)[0]
+    found = out, process.returncode, os.listdir("empty")
+    assert found == (b"interrupted\n", 0, ["started"]), "an interrupted call"
+    assert not os.path.exists(f"/proc/{int(bytes_of('empty/started'))}/exe"), "the program is ended"

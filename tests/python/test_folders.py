@@ -1,0 +1,761 @@
+"""Tests `python3 -m dnorm`: its lines, reports and exit statuses, manifests, groups of files of one problem, odd names,
+2,000 files in one call, the progress bar, signals, and streams that fail."""
+
+import contextlib
+import ctypes
+import hashlib
+import json
+import os
+import re
+import signal
+import subprocess
+import sys
+import threading
+import time
+from typing import Any
+from xml.etree import ElementTree
+
+import pytest
+from known import COSTS, COSTS_TWO, FLOWS, ROADS, ROADS_CANON
+from needs import terminal
+from shared import LIMIT, Answer, bytes_of, run, said, write
+from test_calls import BOTH, COMPRESS, PACKAGE, READS, fake
+
+import dnorm
+from dnorm.commands.folders import Workers
+from dnorm.commands.tasks import DONE
+
+pytestmark = READS
+ENVIRONMENT = {"PYTHONPATH": PACKAGE, "PYTHONDONTWRITEBYTECODE": "1"}
+MODULE = [sys.executable, "-m", "dnorm"]
+
+
+def module(*words: str | bytes, **more: Any) -> Answer:
+    """Runs `python3 -m dnorm` with these arguments."""
+    return run([*MODULE, *words], env={**os.environ, **ENVIRONMENT}, **more)
+
+
+def started(*words: str, **more: Any) -> "subprocess.Popen[bytes]":
+    """Starts `python3 -m dnorm` with these arguments."""
+    return subprocess.Popen([*MODULE, *words], env={**os.environ, **ENVIRONMENT}, **more)
+
+
+def make(texts: dict[str, bytes]) -> None:
+    """Makes files with these names and texts, and their folders."""
+    for name, text in texts.items():
+        os.makedirs(os.path.dirname(name) or ".", exist_ok=True)
+        write(name, text)
+
+
+# The files of a folder with what a check says of them, in the order of their names; and other files in it.
+SET: dict[str, tuple[bytes, str]] = {
+    "set/a-b.gr": (ROADS_CANON, ": accepted sp"),
+    "set/a/b/roads.sp": (ROADS, ": accepted sp"),
+    "set/a/flow.min": (COSTS_TWO, ": accepted min"),
+    "set/a/x.GR": (ROADS, ": accepted sp"),
+    "set/bad.max": (b"p max 2 1\nn 1 s\na 1 2 5\n", ":end: 19 MissingTerminal"),
+    "set/flow.min": (COSTS, ": accepted min"),
+    "set/p.p2p": (b"p aux sp p2p 0\n", ": accepted p2p"),
+    "set/roads.gr": (ROADS, ": accepted sp"),
+    "set/roads.gr.bz2": (ROADS, ": accepted sp"),
+    "set/roads.gr.gz": (ROADS, ": accepted sp"),
+    "set/roads.gr.xz": (ROADS, ": accepted sp"),
+    "set/s.ss": (b"p aux sp ss 1\ns 1\n", ": accepted ss"),
+    "set/v.co": (b"p aux sp co 1\ns 1\n", ":2: 5 WrongLine"),
+}
+OTHERS = ["set/notes.txt", "set/gr", "none/below/notes.txt", "set/.git/x.gr", "set/a/.svn/x.gr"]
+LINES = "".join(f"{name}{what}\n" for name, (_, what) in SET.items())
+LINES_A = LINES[LINES.index("set/a/") : LINES.index("set/bad")]
+MISSING = "missing: 31 Read (No such file or directory)\n"
+NAMES_OTHERS = "; --ending names other endings)"
+NONE = f"none: 31 Read (no file in it ends in .gr .sp .min .max .ss .p2p .co{NAMES_OTHERS}\n"
+# What follows the lines of refused files where they are printed again.
+TERMINAL = "Add the line n ID s or n ID t, before the arcs"
+CAUSES = {"v.co:2": "    line 2: s 1\n", "gr:1": "    line 1: x\n", "notes.txt:1": "    line 1: x\n"}
+CAUSES["bad.max:end"] = f"    {TERMINAL}\n"
+# The other files of the set, and why they are not looked at.
+NO_ENDING = "its name does not end like that of a DIMACS text"
+NOT_LOOKED_AT = {
+    "set/a/loop.gr": "it is a link to a folder, which is not followed",
+    "set/gr": NO_ENDING,
+    "set/notes.txt": NO_ENDING,
+    "set/pipe": NO_ENDING,
+}
+STRICT = "".join(
+    sorted(
+        [*LINES.splitlines(True), *(f"{name}: 31 Read ({why})\n" for name, why in NOT_LOOKED_AT.items())],
+        key=lambda it: it.partition(":")[0],
+    )
+)
+# Arguments of `check`, the lines and the count that it prints, and the status.
+CHECKS = [
+    ("set", LINES, "11 accepted, 2 refused, 0 failed, 4 other files", 2),
+    ("set set/roads.gr set", LINES, "11 accepted, 2 refused, 0 failed, 4 other files", 2),
+    ("--jobs 1 set", LINES, "11 accepted, 2 refused, 0 failed, 4 other files", 2),
+    ("-j 50 set", LINES, "11 accepted, 2 refused, 0 failed, 4 other files", 2),
+    ("--strict set", STRICT, "11 accepted, 2 refused, 4 failed", 4),
+    (
+        "--strict --exclude gr --exclude *.txt --exclude *pipe* --exclude a/l* --exclude bad.max --exclude v.co set",
+        LINES.replace("set/bad.max:end: 19 MissingTerminal\n", "").replace("set/v.co:2: 5 WrongLine\n", ""),
+        "11 accepted, 0 refused, 0 failed",
+        0,
+    ),
+    (
+        "--exclude a --exclude *.gr* --exclude *.?o set",
+        "set/bad.max:end: 19 MissingTerminal\nset/flow.min: accepted min"
+        "\nset/p.p2p: accepted p2p\nset/s.ss: accepted ss\n",
+        "3 accepted, 1 refused, 0 failed, 3 other files",
+        2,
+    ),
+    ("set/a", LINES_A, "3 accepted, 0 refused, 0 failed, 1 other file", 0),
+    ("set/a/", LINES_A, "3 accepted, 0 refused, 0 failed, 1 other file", 0),
+    ("set/a set/s.ss", f"{LINES_A}set/s.ss: accepted ss\n", "4 accepted, 0 refused, 0 failed, 1 other file", 0),
+    ("set/gr set/a", f"{LINES_A}set/gr:1: 1 BadLine\n", "3 accepted, 1 refused, 0 failed, 1 other file", 2),
+    ("set/s.ss set/gr", "set/gr:1: 1 BadLine\nset/s.ss: accepted ss\n", "1 accepted, 1 refused, 0 failed", 2),
+    ("missing set/s.ss", f"{MISSING}set/s.ss: accepted ss\n", "1 accepted, 0 refused, 1 failed", 4),
+    ("missing", MISSING, "0 accepted, 0 refused, 1 failed", 4),
+    ("none", NONE, "0 accepted, 0 refused, 1 failed, 1 other file", 4),
+    ("none set", NONE + LINES, "11 accepted, 2 refused, 1 failed, 5 other files", 4),
+    (
+        "--ending .TXT --ending=.zip set",
+        "set/notes.txt:1: 1 BadLine\n",
+        "0 accepted, 1 refused, 0 failed, 16 other files",
+        2,
+    ),
+    (
+        "--ending .x none",
+        f"none: 31 Read (no file in it ends in .x{NAMES_OTHERS}\n",
+        "0 accepted, 0 refused, 1 failed, 1 other file",
+        4,
+    ),
+    ("-- set/s.ss", "set/s.ss: accepted ss\n", "1 accepted, 0 refused, 0 failed", 0),
+]
+COMMANDS = ["check", "manifest", "same", "list", "compare"]
+# Numbers of Linux.
+PR_CAPBSET_DROP, CAP_DAC_OVERRIDE, CAP_DAC_READ_SEARCH = 24, 1, 2
+# Arguments that are refused.
+WRONG = [
+    *["", "x", "check", "check --jobs 0 set", "check --jobs x set", "check --jobs", "check --js set"],
+    *["check --form 2 set", "check --junit", "check --timeout 0 set", "check --json --output-format github set"],
+    *["check --output-format xml set", "check --csv set", "check --files0-from", "check --files0-from - -"],
+    *["manifest", "manifest --form 3 set", "manifest --verify x --form 2", "manifest --verify x --output y"],
+    *["manifest --verify x --incremental y", "manifest --output x --incremental y z"],
+    *["manifest -q set", "manifest --junit x set", "same", "same --csv x", "same -q x", "same --companions x"],
+    *[
+        "list",
+        "list --csv --json x",
+        "compare",
+        "compare x",
+        "compare x y z",
+        "compare --limit x y z",
+        "compare --limit -1 x y",
+        "compare - -",
+        "compare -q --json x y",
+        "check --json --output-format sarif x",
+        "canon x",
+        "show x",
+        "version",
+        "help",
+    ],
+]
+
+
+def make_set() -> None:
+    """Makes the files of the folder, and others that a check of the folder leaves out."""
+    for name, text in {**{it: text for it, (text, _) in SET.items()}, **dict.fromkeys(OTHERS, b"x\n")}.items():
+        os.makedirs(os.path.dirname(name), exist_ok=True)
+        end = os.path.splitext(name)[1]
+        write(name, COMPRESS[end](text) if end in COMPRESS else text)
+    os.symlink("..", "set/a/loop.gr")
+    os.mkfifo("set/pipe")
+
+
+def again(lines: str) -> str:
+    """Returns the lines of refused and failed files as they are printed again, with their causes. A failure alone has
+    none, and is not printed again."""
+    found = [it for it in lines.splitlines(True) if ": accepted " not in it]
+    causes = [next((cause for name, cause in CAUSES.items() if f"/{name}:" in it), "") for it in found]
+    return "" if lines in found and not any(causes) else "".join(f"{it}{cause}" for it, cause in zip(found, causes))
+
+
+@BOTH
+@pytest.mark.parametrize("words, out, count, status", CHECKS, ids=[it[0] for it in CHECKS])
+def test_check(words: str, out: str, count: str, status: int) -> None:
+    """Which files are checked, in which order, and the statuses."""
+    make_set()
+    assert module("check", *words.split()) == said(out, f"{again(out)}{count}\n", status)
+    quiet = "".join(it for it in out.splitlines(True) if ": accepted " not in it)
+    assert module("check", "-q", *words.split()) == said(quiet, f"{count}\n", status), "-q"
+
+
+@BOTH
+def test_check_here() -> None:
+    make_set()
+    lines, count = LINES.replace("set/", "./"), "11 accepted, 2 refused, 0 failed, 4 other files\n"
+    assert module("check", ".", cwd="set") == said(lines, again(lines) + count, 2)
+
+
+@BOTH
+@pytest.mark.parametrize("words", WRONG)
+def test_wrong_words(words: str) -> None:
+    make_set()
+    found = module(*words.split())
+    command = f"{words.split()[0]} " if words.split()[:1] and words.split()[0] in COMMANDS else ""
+    begin = f"usage: dnorm-files {command}".encode()
+    assert (found.out, found.status, found.err[: len(begin)]) == (b"", 3, begin)
+
+
+@BOTH
+@pytest.mark.parametrize("words", ["-h", "--help", *(f"{it} {way}" for it in COMMANDS for way in ("-h", "--help"))])
+def test_help(words: str) -> None:
+    found = module(*words.split())
+    assert (found.err, found.status, b"exit statuses:" in found.out) == (b"", 0, True)
+
+
+def give_up_rights() -> None:
+    """Gives up the rights by which root reads all files, from the next program on."""
+    if os.geteuid() == 0:
+        for right in [CAP_DAC_OVERRIDE, CAP_DAC_READ_SEARCH]:
+            ctypes.CDLL(None).prctl(PR_CAPBSET_DROP, right, 0, 0, 0)
+
+
+@BOTH
+def test_permission() -> None:
+    """Files and folders that may not be read."""
+    make_set()
+    os.chmod("set/a/b", 0)
+    os.chmod("set/s.ss", 0)
+    no = ": 31 Read (Permission denied)\n"
+    lines = f"set/a/b{no}set/a/flow.min: accepted min\nset/a/x.GR: accepted sp\nset/s.ss{no}"
+    found = module("check", "set/a", "set/s.ss", preexec_fn=give_up_rights)
+    count = "2 accepted, 0 refused, 2 failed, 1 other file\n"
+    assert found == said(lines, again(lines) + count, 4), "without permission"
+    os.chmod("set/a/b", 0o755)
+
+
+# Names of files, and how lines begin with them.
+ODD = {
+    os.fsdecode(b"\xff\xfe.gr"): os.fsdecode(b"\xff\xfe.gr"),
+    " .gr": " .gr",
+    "-x.gr": "-x.gr",
+    "a b.gr": "a b.gr",
+    "a:7: 9 NotANumber.gr": "a:7: 9 NotANumber.gr",
+    "x\ny.gr": r"\x\ny.gr",
+    "x\r.gr": r"\x\r.gr",
+    r"x\ny.gr": r"\x\\ny.gr",
+    'é<&\x01">.gr': 'é<&\x01">.gr',
+}
+
+
+def test_odd_names() -> None:
+    """Odd names in lines, in JSON, in the XML of JUnit, in manifests and in groups."""
+    names = sorted(ODD, key=os.fsencode)
+    for at, name in enumerate(names):
+        write(name, f"p sp {at // 2} 0\n")
+    count = f"{len(ODD)} accepted, 0 refused, 0 failed\n"
+    assert module("check", "--", *names) == said(
+        "".join(f"{ODD[it]}: accepted sp\n" for it in names), count, 0
+    ), "odd names"
+    found = module("check", "--json", "--", *names)
+    told = [json.loads(it)["name"] for it in found.out.splitlines()]
+    assert told == names, "odd names in JSON"
+    module("check", "--junit", "report", "--", *names)
+    cases = [str(it.get("name")) for it in ElementTree.parse("report").iter("testcase")]
+    wanted = [
+        it.encode("utf-8", "surrogateescape").decode("utf-8", "backslashreplace").replace("\x01", r"\x01")
+        for it in names
+    ]
+    assert cases == wanted, "odd names in XML"
+    found = module("manifest", "--output", "list", "--", *names)
+    assert found == said("", f"{len(ODD)} listed, 0 refused, 0 failed\n", 0), "a manifest of odd names"
+    found = module("manifest", "--verify", "list")
+    same = "".join(f"{ODD[it]}: same\n" for it in names)
+    assert found == said(same, f"{len(ODD)} the same, 0 different, 0 refused, 0 failed\n", 0), "odd names verified"
+    pairs = ["".join(f"{ODD[it]}\n" for it in names[at : at + 2]) for at in range(0, len(names) - 1, 2)]
+    found = module("same", "--", *names)
+    assert found == said("\n".join(pairs), count.replace("\n", ", 4 groups\n"), 0), "odd names in groups"
+
+
+@BOTH
+def test_reports() -> None:
+    """The lines of JSON, and the report in the XML of JUnit."""
+    make_set()
+    found = module("check", "--json", "--junit", "report", "set", "missing")
+    assert (found.err, found.status) == (b"11 accepted, 2 refused, 1 failed, 4 other files\n", 4), "--json"
+    records = [json.loads(it) for it in found.out.splitlines()]
+    names = sorted(["missing", *SET])
+    assert [it["name"] for it in records] == names, "names in JSON"
+    of = {it["name"]: it for it in records}
+    wanted: dict[str, object] = {"name": "set/a-b.gr", "status": "accepted", "kind": "sp", "forms": [1, 2]}
+    wanted |= {"remarks": []}
+    assert of["set/a-b.gr"] == wanted, "an accepted file in JSON"
+    wanted = {"name": "set/bad.max", "status": "refused", "error": "set/bad.max:end: 19 MissingTerminal", "line": None}
+    wanted |= {"number": 19, "word": "MissingTerminal", "sentence": "A max file has no source or no sink."}
+    wanted |= {"text": None, "hint": TERMINAL}
+    assert of["set/bad.max"] == wanted, "a refused file in JSON"
+    assert (of["set/v.co"]["line"], of["set/v.co"]["text"]) == (2, "s 1"), "the line of a fault in JSON"
+    wanted = {"name": "missing", "status": "failed", "error": MISSING[:-1], "hint": None}
+    assert of["missing"] == wanted, "a missing file in JSON"
+    suite = ElementTree.parse("report").find("testsuite")
+    assert suite is not None
+    times = [float(it.attrib.pop("time")) for it in [*suite, suite]]
+    assert all(it > 0 for it in times[1:]) and abs(sum(times[:-1]) - times[-1]) < 0.01, f"times in XML: {times}"
+    assert suite.attrib == {"name": "dnorm", "tests": "14", "failures": "2", "errors": "1"}, "JUnit"
+    cases = {it.get("name"): [(one.tag, one.attrib, one.text) for one in it] for it in suite}
+    bad = {"type": "MissingTerminal", "message": "set/bad.max:end: 19 MissingTerminal"}
+    assert cases["set/bad.max"] == [
+        ("failure", bad, f"A max file has no source or no sink.\n{TERMINAL}")
+    ], "a refused file in XML"
+    lost = {"type": "Read", "message": MISSING[:-1]}
+    told = "A file of this kind has no line with this letter.\nline 2: s 1"
+    assert cases["set/v.co"][0][2] == told, "a refused line in XML"
+    assert (cases["missing"], cases["set/a-b.gr"]) == ([("error", lost, None)], []), "other files in XML"
+    for name, reason in {"/dev/full": "No space left on device", "no/x": "No such file or directory"}.items():
+        found = module("check", "--junit", name, "set/a")
+        assert (found.err, found.status) == (f"{name}: 33 Write ({reason})\n".encode(), 4), f"a report in {name}"
+
+
+# Texts that are no manifests, and why. H stands for a checksum.
+NO_MANIFESTS = {
+    "": "it lists no file",
+    "# form 2\n": "it lists no file",
+    "H  a\n\n": "no manifest has the line ''",
+    "H a\n": "no manifest has the line 'H a'",
+    "H  \n": "no manifest has the line 'H  '",
+    "# form 3\nH  a\n": "no manifest has the line '# form 3'",
+    "HH  a\n": "no manifest has the line 'HH  a'",
+    "\\H  a\\x\n": r"no manifest has the line '\\H  a\\x'",
+    "x  a\n": "no manifest has the line 'x  a'",
+}
+
+
+def sum_of(tested: str, text: bytes, form: str) -> str:
+    """Returns the canonical checksum of a text."""
+    return hashlib.sha256(run([tested, "canon", "--form", form, "-"], text).out).hexdigest()
+
+
+@BOTH
+def test_manifests(tested: str) -> None:
+    """Manifests: what they list, and what verifying them says."""
+    make_set()
+    accepted = {name: text for name, (text, what) in SET.items() if "accepted" in what}
+    refused = "set/bad.max:end: 19 MissingTerminal\nset/v.co:2: 5 WrongLine\n"
+    for form, head in [("1", ""), ("2", "# form 2\n")]:
+        lines = head + "".join(f"{sum_of(tested, text, form)}  {name}\n" for name, text in accepted.items())
+        found = module("manifest", "--form", form, "set")
+        assert found == said(
+            lines, f"{refused}11 listed, 2 refused, 0 failed, 4 other files\n", 2
+        ), f"a manifest of form {form}"
+        write("list", lines)
+        same = "".join(f"{name}: same\n" for name in accepted)
+        found = module("manifest", "--verify", "list")
+        assert found == said(same, "11 the same, 0 different, 0 refused, 0 failed\n", 0), f"form {form} verified"
+    changes = [("set/flow.min", FLOWS, ": differs", 1), ("set/s.ss", b"p\n", ":1: 4 UnknownProblem", 2)]
+    changes.append(("set/roads.gr.gz", b"", ": 31 Read (the compressed data end too early)", 4))
+    for name, text, what, status in changes:
+        write(name, text)
+        same = same.replace(f"{name}: same\n", f"{name}{what}\n")
+        found = module("manifest", "--verify", "list")
+        assert (found.out.decode(), found.status) == (same, status), f"a manifest with another {name}"
+    assert found.err == b"8 the same, 1 different, 1 refused, 1 failed\n", "its counts"
+    for other, reason in NO_MANIFESTS.items():
+        write("other", other.replace("H", "0" * 64))
+        wanted = f"other: 31 Read ({reason.replace('H', '0' * 64)})\n"
+        assert module("manifest", "--verify", "other") == said("", wanted, 4), f"{other!r} as a manifest"
+    assert module("manifest", "--verify", "missing") == said("", MISSING, 4), "no manifest"
+    for name, reason in {"/dev/full": "No space left on device", "no/x": "No such file or directory"}.items():
+        found = module("manifest", "--output", name, "set/a")
+        assert (found.err, found.status) == (f"{name}: 33 Write ({reason})\n".encode(), 4), f"a manifest in {name}"
+
+
+def test_kept_manifests() -> None:
+    """A file that fails takes no entry out of a manifest."""
+    make({f"set/{it}.gr": ROADS for it in "abc"})
+    module("manifest", "--output", "list", "set")
+    before = bytes_of("list")
+    os.rename("set/b.gr", "b.gr")
+    os.symlink("nowhere", "set/b.gr")
+    lines = "set/b.gr: 31 Read (No such file or directory)\nlist: not written, since it would lack what failed\n"
+    lines += "2 listed, 0 refused, 1 failed\n"
+    for target in ["list", "new"]:
+        wanted = lines.replace("list: ", f"{target}: ")
+        found = module("manifest", "--output", target, "set")
+        assert found == said("", wanted, 4), f"a manifest in {target} while a file fails"
+    assert (bytes_of("list"), os.path.exists("new"), hidden()) == (before, False, []), "the manifest"
+    os.replace("b.gr", "set/b.gr")
+    found = module("manifest", "--verify", "list", "-q", "set")
+    assert found == said("", "3 the same, 0 different, 0 refused, 0 failed\n", 0), "the manifest verified"
+    write("set/c.gr", b"x\n")
+    found = module("manifest", "--output", "list", "set")
+    lines = "set/c.gr:1: 1 BadLine\n2 listed, 1 refused, 0 failed\n"
+    assert found == said("", lines, 2), "a manifest beside a refused file"
+    assert len(bytes_of("list").splitlines()) == 2, "its entries"
+
+
+def made_before(*names: str, seconds: int = 3600) -> int:
+    """Makes it look as if files were written so long before, and returns that time in nanoseconds."""
+    then = time.time_ns() - seconds * 1_000_000_000
+    for it in names:
+        os.utime(it, ns=(then, then))
+    return then
+
+
+@BOTH
+def test_renewed() -> None:
+    """That `manifest --incremental` reads only what is new or was written, and what others make of its file."""
+    make({f"set/{it}.gr": ROADS for it in "abcd"})
+    old = made_before(*(f"set/{it}.gr" for it in "abc"))
+    made_before("set/d.gr", seconds=-3600)
+    begin = "manifest --incremental list set".split()
+    assert module(*begin) == said("", "4 listed, 0 refused, 0 failed\n", 0), "a first manifest"
+    marks = [f"# file {len(ROADS)} {old} sp"] * 3
+    assert [it for it in bytes_of("list").decode().splitlines() if it.startswith("#")] == marks, "its marks"
+    # If it is not read, a file may have become anything.
+    write("set/a.gr", b"x" * len(ROADS))
+    os.utime("set/a.gr", ns=(old, old))
+    write("set/b.gr", COSTS)
+    made_before("set/b.gr", seconds=-3600)
+    assert module(*begin) == said("", "4 listed, 0 refused, 0 failed, 2 not read again\n", 0), "a second one"
+    lines = [it.partition("  ") for it in bytes_of("list").decode().splitlines()]
+    sums = {name: checksum for checksum, _, name in lines if name}
+    roads, costs = dnorm.checksum(ROADS), dnorm.checksum(COSTS)
+    assert sums == {"set/a.gr": roads, "set/b.gr": costs, "set/c.gr": roads, "set/d.gr": roads}, "its sums"
+    assert bytes_of("list").count(b"# file") == 2, "marks of fresh files"
+    os.remove("set/c.gr")
+    assert module(*begin) == said("", "3 listed, 0 refused, 0 failed, 1 not read again\n", 0), "a file that is gone"
+    found = module("manifest", "--verify", "list", "-q")
+    assert (found.status, found.out.startswith(b"set/a.gr:1: 1 BadLine")) == (2, True), "verifying reads all files"
+    found = module(*begin, "--form", "2")
+    assert (found.status, b"not read again" in found.err) == (2, False), "another form is read"
+    for text in ["no manifest", "# file 1 2 net"]:
+        write("list", f"{text}\n")
+        wanted = f"list: 31 Read (no manifest has the line {text!r})\n"
+        assert module(*begin) == said("", wanted, 4), f"{text} to renew"
+
+
+@BOTH
+def test_known_files() -> None:
+    """That `check --incremental` reads only what is new or was written, and each companion beside its graph."""
+    make(
+        {f"set/{it}": ROADS for it in ("a.gr", "b.gr", "c.gr", "d.min", "fresh.gr")} | {"set/a.ss": SET["set/s.ss"][0]}
+    )
+    old = made_before(*(f"set/{it}" for it in ("a.gr", "a.ss", "b.gr", "c.gr", "d.min")))
+    made_before("set/fresh.gr", seconds=-3600)
+    module(*"manifest --incremental list set".split())
+    kept = bytes_of("list")
+    for it in ("a.gr", "b.gr", "fresh.gr"):
+        write(f"set/{it}", b"x" * len(ROADS))
+    os.utime("set/a.gr", ns=(old, old))
+    write("set/new.gr", ROADS)
+    refused = ["set/b.gr:1: 1 BadLine", "set/fresh.gr:1: 1 BadLine"]
+    odd = "set/d.min: accepted sp, its ending is that of min"
+    end = "5 accepted, 2 refused, 0 failed, 1 file of another kind than its ending, 4 not read again"
+    begin = "check --incremental list set".split()
+    found = module(*begin, "-q")
+    assert (found.out.decode().splitlines(), found.status) == ([refused[0], odd, refused[1]], 2), "known files"
+    assert found.err.decode().splitlines()[-1] == end, "known files at the end"
+    found = module(*begin, "--companions")
+    companion = "set/a.ss: accepted ss, graph not accepted: set/a.gr"
+    assert found.out.decode().splitlines()[1] == companion, "a companion of a known graph"
+    lines = module(*begin, "--strict").out.decode().splitlines()
+    assert "set/d.min: 31 Read (accepted sp, its ending is that of min)" in lines, f"strict: {lines}"
+    of = {it["name"]: it for it in map(json.loads, module(*begin, "--json").out.splitlines())}
+    assert [of[f"set/{it}.gr"]["forms"] for it in ("c", "new")] == [None, []], "forms of known files"
+    assert bytes_of("list") == kept, "the manifest"
+    os.remove("list")
+    wanted = "list: 31 Read (No such file or directory)\n"
+    assert module(*begin) == said("", wanted, 4), "a check by no manifest"
+
+
+def slowly_squared(number: int) -> int:
+    time.sleep(0.03)
+    return number * number
+
+
+# A process in which two slow tasks start threads, and many quick ones follow. It says how many threads did the slow
+# ones, and how few the quick ones, of which the last ones may be among few.
+QUICK_TASKS = """
+import threading, time
+from dnorm.commands.folders import Workers
+slow, count = 2, 30_000
+def task(at):
+    if at < slow:
+        time.sleep(0.2)
+    return threading.active_count() - 1
+workers = Workers(task, range(count), slow)
+threads = [workers.result(it) for it in range(count)]
+print(max(threads), min(threads[slow:-1000]))
+"""
+
+
+def test_quick_tasks() -> None:
+    """Quick tasks are left to one of the threads that slow ones have started: they would wait for each other."""
+    assert run([sys.executable, "-c", QUICK_TASKS], env={**os.environ, **ENVIRONMENT}) == said("2 1\n")
+
+
+def test_few_threads() -> None:
+    """All tasks are done, in their order, where the system lets few threads start or none."""
+    start = threading.Thread.start
+    for most in [0, 1, 3]:
+        begun: list[threading.Thread] = []
+
+        def begin(thread: threading.Thread) -> None:
+            if len(begun) >= most:
+                raise RuntimeError("can't start new thread")
+            begun.append(thread)
+            start(thread)
+
+        setattr(threading.Thread, "start", begin)
+        try:
+            workers = Workers(slowly_squared, range(20), 4)
+            found = [workers.result(it) for it in range(20)]
+        finally:
+            setattr(threading.Thread, "start", start)
+        assert (found, len(begun)) == ([it * it for it in range(20)], most), f"tasks by {most} threads"
+    make_set()
+    for kilobytes in [50_000, 60_000]:
+        limited = run(
+            ["bash", "-c", f'ulimit -v {kilobytes}; exec "$@"', "bash", *MODULE, "check", "-j", "4", "set"],
+            env={**os.environ, **ENVIRONMENT},
+        )
+        assert b"Traceback" not in limited.err, f"no traceback in {kilobytes} kB: {limited.err!r}"
+
+
+def test_groups() -> None:
+    """Groups of files of one problem."""
+    make_set()
+    write("set/again.max", b"p max 2 0\nn 2 t\nn 1 s\n")
+    write("set/max.max", b"c\np max 2 1\nn 1 s\nn 2 t\na 1 2 0\n")
+    roads = [
+        "set/a-b.gr",
+        "set/a/b/roads.sp",
+        "set/a/x.GR",
+        "set/roads.gr",
+        "set/roads.gr.bz2",
+        "set/roads.gr.gz",
+        "set/roads.gr.xz",
+    ]
+    wanted = [roads, ["set/a/flow.min", "set/flow.min"], ["set/again.max", "set/max.max"]]
+    lines = "\n".join("".join(f"{it}\n" for it in group) for group in wanted)
+    refused = "set/bad.max:end: 19 MissingTerminal\nset/v.co:2: 5 WrongLine\n"
+    assert module("same", "set") == said(
+        lines, f"{refused}13 accepted, 2 refused, 0 failed, 3 groups, 4 other files\n", 2
+    ), "same"
+    assert module("same", "set/s.ss") == said("", "1 accepted, 0 refused, 0 failed\n", 0), "no groups"
+    assert module("same", "missing") == said("", f"{MISSING}0 accepted, 0 refused, 1 failed\n", 4), "no file"
+
+
+def test_many() -> None:
+    """2,000 files in one call, of which each hundredth is refused."""
+    os.mkdir("many")
+    names = sorted(f"many/{it}.gr" for it in range(2000))
+    bad = set(names[::100])
+    for at, name in enumerate(names):
+        write(name, f"p sp 9 2\na 1 {at % 9 + 1} {at}\na 1 2 {'x' if name in bad else 3}\n")
+    lines = "".join(f"{it}:3: 9 NotANumber\n" if it in bad else f"{it}: accepted sp\n" for it in names)
+    told = [it for it in lines.splitlines() if "accepted" not in it]
+    causes = ["    line 3: a 1 2 x\n    Scale to whole numbers; remove a fraction that is 0\n" for _ in told]
+    end = "".join(f"{it}\n{cause}" for it, cause in zip(told, causes))
+    assert module("check", "many") == said(lines, f"{end}1980 accepted, 20 refused, 0 failed\n", 2), "2,000 files"
+
+
+def test_progress() -> None:
+    """The progress bar, which is drawn on a terminal only, and its removal before each line."""
+    upper, lower = terminal()
+    slow = fake("slow", "sleep 0.3; cat > /dev/null; echo accepted sp; echo forms 1")
+    names = [f"{it}.gr" for it in range(4)]
+    for name in names:
+        write(name, ROADS)
+    process = started("check", "--jobs", "1", "--program", slow, *names, stderr=lower, stdout=lower)
+    os.close(lower)
+    said = b""
+    with contextlib.suppress(OSError):
+        while piece := os.read(upper, 4096):
+            said += piece
+    os.close(upper)
+    assert process.wait(LIMIT) == 0, "the status on a terminal"
+    bars = re.findall(rb"\r\[(#*)\.*\] (\d) of 4, \d+ %", said)
+    shares = [int(it) for it in re.findall(rb"of 4, (\d+) %", said)]
+    assert shares == sorted(shares) and shares[:1] < [50] and shares[-1:] > [50], f"shares rise: {shares}"
+    assert {len(it) for it, _ in bars} == {30 * int(at) // 4 for _, at in bars}, "bars on a terminal"
+    assert bars, "there are bars on a terminal"
+    shown = said.decode().replace("\r\n", "\n").split("\n")
+    wanted = [*(f"{it}: accepted sp" for it in names), "4 accepted, 0 refused, 0 failed", ""]
+    assert [it.rpartition("\r")[2] for it in shown] == wanted, "lines on a terminal"
+
+
+def test_together() -> None:
+    """As many programs run at once as were asked for."""
+    program = fake("counts", "echo + >> log; sleep 0.3; echo - >> log; cat > /dev/null; echo accepted sp; echo forms 1")
+    names = [f"{it}.gr" for it in range(9)]
+    for name in names:
+        write(name, ROADS)
+    for jobs in [1, 3]:
+        write("log", "")
+        module("check", "--jobs", str(jobs), "--program", program, *names)
+        steps = [1 if it == b"+" else -1 for it in bytes_of("log").split()]
+        most = max(sum(steps[:at]) for at in range(len(steps) + 1))
+        assert (most, len(steps)) == (jobs, 18), f"programs at once with --jobs {jobs}"
+
+
+RUNS = ["check", "check --junit kept", "manifest --output kept", "manifest", "same", "manifest --verify list"]
+
+
+def test_signals() -> None:
+    """A signal ends the programs, and leaves nothing half-written."""
+    slow = fake("slow", "echo $$ >> started; exec sleep 60")
+    names = [f"{it}.gr" for it in range(9)]
+    for name in names:
+        write(name, ROADS)
+    write("list", "".join(f"{'0' * 64}  {it}\n" for it in names))
+    for words in RUNS:
+        for number in [signal.SIGINT, signal.SIGTERM, signal.SIGHUP]:
+            write("started", b"")
+            write("kept", b"old")
+            paths = names if "--verify" not in words else []
+            process = started(*words.split(), "--jobs", "2", "--program", slow, *paths, stdout=-1, stderr=-1)
+            while len(bytes_of("started").split()) < 2 and process.poll() is None:
+                time.sleep(0.01)
+            process.send_signal(number)
+            out, err = process.communicate(timeout=LIMIT)
+            done = DONE["verify" if "--verify" in words else words.split()[0]]
+            line = f"0 {done}, 0 refused, 0 failed, 0 of 9 done\n".encode()
+            assert (out, err, process.returncode) == (b"", line, -number), f"{words} after {number.name}"
+            assert (bytes_of("kept"), hidden(), still_running()) == (b"old", [], []), f"{words} leaves"
+    program = fake("one", "sleep 0.5; cat > /dev/null; echo accepted sp; echo forms 1")
+    ignoring = started(
+        *["check", "--program", program, names[0]],
+        stdout=-1,
+        stderr=-1,
+        preexec_fn=lambda: signal.signal(signal.SIGHUP, signal.SIG_IGN),
+    )
+    time.sleep(0.2)
+    ignoring.send_signal(signal.SIGHUP)
+    ignoring.communicate(timeout=LIMIT)
+    assert ignoring.returncode == 0, "a signal that is ignored, as by nohup"
+
+
+def test_known_so_far() -> None:
+    """A signal lets a check print what is known, also of files behind one that takes long; and that -x ends
+    a check after the first fault."""
+    names = [f"{it}.gr" for it in range(6)]
+    for name in names:
+        write(name, ROADS)
+    write("1.gr", b"slow\n")
+    write("3.gr", b"bad\n")
+    program = fake(
+        "some",
+        """
+        text=$(cat)
+        case $text in
+            slow) echo + >> log; exec sleep 60 ;;
+            bad) echo '-:1: 1 BadLine' >&2; echo + >> log; exit 2 ;;
+        esac
+        echo accepted sp; echo forms 1; echo + >> log""",
+    )
+    for number in [signal.SIGINT, signal.SIGTERM]:
+        write("log", "")
+        process = started("check", "--jobs", "2", "--program", program, *names, stdout=-1, stderr=-1)
+        while len(bytes_of("log")) < 12 and process.poll() is None:
+            time.sleep(0.01)
+        # The last program may not have ended.
+        time.sleep(0.3)
+        process.send_signal(number)
+        out, err = process.communicate(timeout=LIMIT)
+        lines = [f"{it}: accepted sp\n" for it in names if it not in ("1.gr", "3.gr")]
+        lines.insert(2, "3.gr:1: 1 BadLine\n")
+        cause = "3.gr:1: 1 BadLine\n    line 1: bad\n4 accepted, 1 refused, 0 failed, 5 of 6 done\n"
+        wanted = ("".join(lines).encode(), cause.encode(), -number)
+        assert (out, err, process.returncode) == wanted, f"what is known at {number.name}"
+    write("1.gr", ROADS)
+    for option in ["-x", "--exit-first"]:
+        found = module("check", option, *names)
+        lines = [*(f"{it}.gr: accepted sp\n" for it in range(3)), "3.gr:1: 1 BadLine\n"]
+        cause = "3.gr:1: 1 BadLine\n    line 1: bad\n3 accepted, 1 refused, 0 failed, 4 of 6 done\n"
+        assert found == said("".join(lines), cause, 2), f"check {option}"
+    found = module("check", "-x", "0.gr", "1.gr")
+    assert found == said(
+        "0.gr: accepted sp\n1.gr: accepted sp\n", "2 accepted, 0 refused, 0 failed\n", 0
+    ), "check -x of good files"
+
+
+def hidden() -> list[str]:
+    """Returns the hidden files of this folder."""
+    return [it for it in os.listdir(".") if it.startswith(".")]
+
+
+def still_running() -> list[int]:
+    """Returns which of the processes in the file `started` run a second later."""
+    for _ in range(100):
+        left = [int(it) for it in bytes_of("started").split() if os.path.exists(f"/proc/{int(it)}/exe")]
+        if not left:
+            break
+        time.sleep(0.01)
+    return left
+
+
+# Commands that print.
+PRINTING = ["check set/a", "check --json set/a", "manifest set/a", "manifest --verify list"]
+PRINTING += ["same set/roads.gr set/a-b.gr"]
+
+
+def by_shell(text: str) -> Answer:
+    """Runs a command of a shell, in which `dnorm` is `python3 -m dnorm`."""
+    environment = {**os.environ, **ENVIRONMENT, "PYTHON": sys.executable}
+    return run(["bash", "-c", f'dnorm() {{ "$PYTHON" -m dnorm "$@"; }}; {text}'], env=environment)
+
+
+@pytest.mark.parametrize("words", PRINTING)
+def test_outputs(tested: str, words: str) -> None:
+    """Streams that are closed, full or broken."""
+    make_set()
+    write("list", f"{sum_of(tested, SET['set/s.ss'][0], '1')}  set/s.ss\n")
+    for to, reason in [("> /dev/full", " (No space left on device)"), (">&-", "")]:
+        assert by_shell(f"dnorm {words} {to}") == said("", f"out: 33 Write{reason}\n", 4), to
+    reading, writing = os.pipe()
+    os.close(reading)
+    process = started(*words.split(), stdout=writing, stderr=subprocess.PIPE)
+    os.close(writing)
+    err = process.communicate(timeout=LIMIT)[1]
+    assert (err, process.returncode) == (b"", -signal.SIGPIPE), "unread"
+    right = module(*words.split())
+    for to in ["2>&-", "2> /dev/full", "<&-", "<&- 2>&-"]:
+        found = by_shell(f"dnorm {words} {to}")
+        assert (found.out, found.status) == (right.out, right.status), to
+
+
+def test_all_streams() -> None:
+    make_set()
+    assert by_shell("dnorm check set/a <&- >&- 2>&-") == said("", "", 4), "nothing open"
+    warned = run(
+        [sys.executable, "-X", "dev", "-W", "error", *MODULE[1:], "check", "set/a"], env={**os.environ, **ENVIRONMENT}
+    )
+    assert (warned.err, warned.status) == (b"3 accepted, 0 refused, 0 failed, 1 other file\n", 0), "with all warnings"
+
+
+def test_programs() -> None:
+    """Programs that are missing, other programs, killed or out of memory for a file, or print other lines."""
+    make_set()
+    for words in [["check", "set"], ["manifest", "set"], ["same", "set"]]:
+        found = module(*words, "--program", "/none")
+        assert found == said("", "/none: cannot be run (there is no such program)\n", 4), f"{words} by no program"
+    found = module("check", "set", "--program", "/bin/cat")
+    assert (found.out, found.err[:23], found.status) == (b"", b"/bin/cat: cannot be run", 4), "check by cat"
+    texts = {"1.gr": "p sp 0 0\n", "2.gr": "die\n", "3.gr": "want\n", "4.gr": "odd\n"}
+    for name, text in texts.items():
+        write(name, text)
+    program = fake(
+        "some",
+        """
+        case $(cat) in
+            die) kill -9 $$ ;;
+            want) echo '-: 30 Memory' >&2; exit 4 ;;
+            odd) echo 'Odd' ;;
+            *) echo accepted sp; echo forms 1 ;;
+        esac""",
+    )
+    lines = "1.gr: accepted sp\n2.gr: dnorm was ended by signal 9 (SIGKILL)\n3.gr: 30 Memory\n"
+    lines += "4.gr: dnorm did not answer as it should (its status was 0, and it printed 'Odd\\n')\n"
+    found = module("check", "--program", program, *texts)
+    count = "1 accepted, 0 refused, 3 failed\n"
+    assert found == said(lines, again(lines) + count, 4), "programs that fail"

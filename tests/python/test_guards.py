@@ -1,0 +1,272 @@
+"""Tests the guards of a collection: `python3 -m dnorm check`, the hook for git at a commit and at a merge, the hook for
+pre-commit, and the workflow for CI services. The collection has 300 instances, and beside them texts with faults, with
+names in capitals, behind compressions that are read and others, cut or damaged, pointers of Git LFS, companions that do
+not fit, and links. Each guard refuses each of these files, or counts it among the other files. It names a text of
+another kind than its ending and a companion without a graph that is accepted, and refuses them if it is strict.
+"""
+
+import gzip
+import os
+import re
+import shutil
+
+from collection import (
+    BAD,
+    COUNT,
+    FAULTS,
+    NO,
+    NO_GRAPH,
+    OTHER_KIND,
+    OTHERS,
+    POINTER,
+    REFUSED_GRAPH,
+    make_collection,
+    make_pipes,
+)
+from known import ROADS
+from needs import leave_out
+from shared import ROOT, Answer, run, text_of, write
+from test_calls import BOTH, READS
+from test_ci import FIELD, HOOKS, STEP, WORKFLOW
+from test_folders import make, module
+
+pytestmark = READS
+
+
+def are_named(what: str, lines: list[str], faults: dict[str, str], besides: tuple[str, ...] = ()) -> None:
+    """These lines name each of these files with its fault, and nothing else but what begins so."""
+    for name, fault in faults.items():
+        pattern = re.compile(re.escape(name) + f"(?:{fault})")
+        told = [it for it in lines if pattern.match(it)]
+        assert len(told) == 1, f"{what} names {name}"
+        lines = [it for it in lines if it not in told]
+    assert [it for it in lines if not it.startswith(besides or ("\0",))] == [], f"{what} names others"
+
+
+def remarked(remarks: dict[str, str], before: str = ": accepted [a-z0-9]+, ") -> dict[str, str]:
+    """Returns what follows the names of the files with remarks."""
+    return {name: f"{before}{it}$" for name, it in remarks.items() if it}
+
+
+@BOTH
+def test_by_package() -> None:
+    """Tests `python3 -m dnorm check`, also with links to folders, with --strict and with names that are given."""
+    remarks, faults = make_collection(), {**FAULTS, **make_pipes()}
+    os.symlink("inst", "coll/linked")
+    found = module("check", "--companions", "-q", "coll")
+    lines = found.out.decode().splitlines()
+    are_named("check", lines, {**faults, **remarked(remarks)})
+    failed = sum(": 31 Read " in it for it in lines)
+    alone, kinds = (sum(it in remark for remark in remarks.values()) for it in (NO_GRAPH, OTHER_KIND))
+    count = f"{len(remarks)} accepted, {len(faults) - failed} refused, {failed} failed"
+    count += f", {alone} companions without a graph, 1 companion of a graph that is not accepted"
+    count += f", {kinds} files of another kind than their endings, {len(OTHERS) + 1} other files\n"
+    assert (found.err.decode(), found.status) == (count, 4), "the count"
+    assert len(remarks) == COUNT, "accepted files"
+    found = module("check", "--strict", "--companions", "-q", "coll")
+    others = {it: NO for it in [*OTHERS, "coll/linked"]}
+    strict = remarked(remarks, r": 31 Read \(accepted [a-z0-9]+, ")
+    strict = {name: it.replace("$", r"\)$") for name, it in strict.items()}
+    are_named("--strict", found.out.decode().splitlines(), {**faults, **strict, **others})
+    names = "\0".join([*remarks, *FAULTS]).encode()
+    found = module("check", "--companions", "-q", "--files0-from", "-", given=names)
+    are_named("check of named files", found.out.decode().splitlines(), {**FAULTS, **remarked(remarks)})
+
+
+class Repository:
+    """A repository with the collection, in the folder `coll`."""
+
+    def __init__(self, tested: str) -> None:
+        os.mkdir("bin")
+        os.symlink(os.path.realpath(tested), "bin/dnorm")
+        who = {f"GIT_{one}_{it}": "a@example.org" for one in ["AUTHOR", "COMMITTER"] for it in ["NAME", "EMAIL"]}
+        alone = {"GIT_CONFIG_GLOBAL": "/dev/null", "GIT_CONFIG_NOSYSTEM": "1", "LC_ALL": "C.UTF-8"}
+        self.environment = {**os.environ, **who, **alone, "PATH": f"{os.getcwd()}/bin:{os.environ['PATH']}"}
+        del self.environment["DNORM"]
+        self.git("init", "-q", "-b", "main")
+        write("first.txt", "first")
+        self.git("add", "first.txt")
+        self.git("commit", "-q", "-m", "first")
+
+    def git(self, *words: str) -> Answer:
+        return run(["git", *words], env=self.environment)
+
+    def lines(self, *words: str) -> tuple[list[str], int]:
+        """Returns the lines of a command of git on standard error, and its status."""
+        found = self.git(*words)
+        return found.err.decode().splitlines(), found.status
+
+
+def test_by_git(tested: str) -> None:
+    """The hook for git: it refuses a commit with these files, and a merge that brings them."""
+    if not shutil.which("git"):
+        leave_out("git")
+    remarks = make_collection()
+    shutil.rmtree("coll/.git")
+    repository = Repository(tested)
+    repository.git("switch", "-q", "-c", "branch")
+    repository.git("add", "coll")
+    repository.git("commit", "-q", "-m", "a collection")
+    repository.git("switch", "-q", "main")
+    for it in ["pre-commit", "pre-merge-commit"]:
+        shutil.copy(f"{ROOT}/share/git/pre-commit", f".git/hooks/{it}")
+    lines, status = repository.lines("merge", "--no-ff", "-q", "-m", "merged", "branch")
+    told = {**FAULTS, **remarks_of_hook(remarks)}
+    # Of a companion of another kind there is a line more.
+    more = ("coll/kind-co.ss: no graph", "coll/kind-sp.co: no graph")
+    are_named("a merge", lines, told, ("Not committing merge; ", "    line ", *more))
+    assert (status, repository.git("log", "--format=%s").out) == (1, b"first\n"), "a merge"
+    lines, status = repository.lines("commit", "-q", "-m", "a collection")
+    are_named("a commit", lines, told, ("    line ", *more))
+    assert "    line 2: a 1 3 5" in lines, "a commit shows lines"
+    assert (status, repository.git("log", "--format=%s").out) == (1, b"first\n"), "a commit"
+    repository.git("rm", "-q", "--cached", "--", *FAULTS)
+    repository.git("config", "dnorm.strict", "true")
+    lines, status = repository.lines("commit", "-q", "-m", "the others")
+    told = remarks_of_hook({name: it for name, it in remarks.items() if not it.startswith(REFUSED_GRAPH)})
+    told["coll/worse.co"] = ": no graph$"
+    are_named("a strict commit of the others", lines, told, more)
+    assert status == 1, "its status"
+    repository.git("config", "dnorm.strict", "false")
+    lines, status = repository.lines("commit", "-q", "-m", "the others")
+    are_named("a commit of the others", lines, told, more)
+    assert status == 0, "its status"
+    later_links(repository)
+    by_variable(repository)
+    later_pairs(repository)
+
+
+def remarks_of_hook(remarks: dict[str, str]) -> dict[str, str]:
+    """Returns what the hook for git says of the files with remarks: of both in two lines."""
+    found = {}
+    for name, it in remarks.items():
+        if it.startswith(REFUSED_GRAPH):
+            found[name] = ": not checked with its graph coll/worse.gr:2: 13 NodeOutOfRange$"
+        elif it == NO_GRAPH:
+            found[name] = ": no graph$"
+        elif it:
+            found[name] = f": accepted [a-z]+, {OTHER_KIND}$"
+    return found
+
+
+def later_links(repository: Repository) -> None:
+    """Links that lead out of what is committed, and to folders."""
+    make({"below/x.gr": ROADS, "untracked": ROADS, f"{os.getcwd()}-outside": ROADS})
+    links = {"a.gr": "below/x.gr", "b.gr": "untracked", "c.gr": f"{os.getcwd()}-outside", "d.gr": "below"}
+    for name, to in links.items():
+        os.symlink(to, name)
+    repository.git("add", "below", *links)
+    lines, status = repository.lines("commit", "-q", "-m", "links")
+    assert (lines, status) == (["b.gr: 31 Read (No such file or directory)"], 1), "a commit of links"
+    repository.git("rm", "-q", "--cached", "b.gr")
+    assert repository.lines("commit", "-q", "-m", "links") == ([], 0), "a commit of links"
+    repository.git("rm", "-q", "coll/good.gr.gz")
+    orphans = ["coll/good.co: no graph", "coll/good.ss: no graph"]
+    assert repository.lines("commit", "-q", "-m", "x") == (orphans, 0), "a graph that is removed"
+    repository.git("reset", "-q", "--hard", "HEAD~1")
+    repository.git("mv", "coll/good.gr.gz", "coll/better.gr.gz")
+    assert repository.lines("commit", "-q", "-m", "x") == (orphans, 0), "a graph that is renamed"
+    os.remove(f"{os.getcwd()}-outside")
+    repository.git("reset", "-q", "--hard", "HEAD~1")
+
+
+def by_variable(repository: Repository) -> None:
+    """The hook runs the program in $DNORM, and says so if there is none."""
+    write("new.gr", BAD)
+    repository.git("add", "new.gr")
+    os.mkdir("a b")
+    shutil.copy("bin/dnorm", "a b/dnorm")
+    refusal = ["new.gr:2: 13 NodeOutOfRange", "    line 2: a 1 3 5"]
+    missing = ["none: there is no such program; $DNORM may name it"]
+    rows = {f"{os.getcwd()}/a b/dnorm": refusal, f"env A=b {os.getcwd()}/bin/dnorm": refusal, "none": missing}
+    for named, lines in rows.items():
+        repository.environment["DNORM"] = named
+        assert repository.lines("commit", "-q", "-m", "x") == (lines, 1), f"$DNORM {named}"
+    del repository.environment["DNORM"]
+    repository.git("reset", "-q", "--hard")
+
+
+def later_pairs(repository: Repository) -> None:
+    """A graph or a companion is checked against what is committed before; and texts that git has lost."""
+    for name, text, line in [
+        (
+            "coll/good.gr.gz",
+            gzip.compress(b"p sp 29 0\n"),
+            "coll/good.ss: 35 NotInGraph 30 (its graph is coll/good.gr.gz)",
+        ),
+        (
+            "coll/good.p2p",
+            b"p aux sp p2p 1\nq 31 1\n",
+            "coll/good.p2p: 35 NotInGraph 31 (its graph is coll/good.gr.gz)",
+        ),
+    ]:
+        write(name, text)
+        repository.git("add", "--", name)
+        assert repository.lines("commit", "-q", "-m", "x") == ([line], 1), f"a commit of {name}"
+        repository.git("reset", "-q", "--hard")
+    make({"old/a.gr": BAD, "old/b.gr.gz": b"not compressed"})
+    repository.git("add", "old")
+    repository.git("commit", "-q", "--no-verify", "-m", "refused graphs")
+    make({"old/a.ss": b"p aux sp ss 1\ns 9\n", "old/b.co": b"p aux sp co 0\n"})
+    repository.git("add", "old")
+    lines, status = repository.lines("commit", "-q", "-m", "their companions")
+    told = [
+        "old/a.ss: not checked with its graph old/a.gr:2: 13 NodeOutOfRange",
+        "old/b.co: not checked with its graph old/b.gr.gz: 31 Read (gzip: stdin: not in gzip format)",
+    ]
+    assert (lines, status) == (told, 0), "companions of refused graphs"
+    repository.git("config", "filter.lfs.clean", "cat > /dev/null; cat pointer")
+    repository.git("config", "filter.lfs.smudge", "echo 'the object is missing' >&2; false")
+    repository.git("config", "filter.lfs.required", "true")
+    write(".gitattributes", "lost.gr filter=lfs\n")
+    write("lost.gr", ROADS)
+    write("pointer", b"elsewhere\n")
+    repository.git("add", ".gitattributes", "lost.gr")
+    lost = "fatal: lost.gr: smudge filter lfs failed"
+    wanted = ([f"lost.gr: git could not read it ({lost})"], 1)
+    assert repository.lines("commit", "-q", "-m", "x") == wanted, "a commit of a text that is lost"
+    write("pointer", POINTER)
+    repository.git("add", "--renormalize", "lost.gr")
+    wanted = (["lost.gr: its text in Git LFS is missing (git lfs pull)"], 1)
+    assert repository.lines("commit", "-q", "-m", "x") == wanted, "a commit of an object that is missing"
+
+
+def test_by_pre_commit(tested: str) -> None:
+    """The hook for pre-commit, called as pre-commit calls it: with the files that match its expressions."""
+    remarks = make_collection()
+    fields = {name: value.strip("'") for name, value in FIELD.findall(text_of(HOOKS))}
+    names = [os.path.join(at, it) for at, _, below in os.walk("coll") for it in below if "/.git" not in at]
+    chosen = [it for it in names if re.search(fields["files"], it) and not re.search(fields["exclude"], it)]
+    assert sorted(set(names) - set(chosen)) == sorted(OTHERS), "files that are not chosen"
+    environment = {it: value for it, value in os.environ.items() if it != "PYTHONPATH"}
+    environment |= {"PYTHONDONTWRITEBYTECODE": "1", "DNORM": tested}
+    found = run([f"{ROOT}/{fields['entry']}", *sorted(chosen)], env=environment)
+    are_named("pre-commit", found.out.decode().splitlines(), {**FAULTS, **remarked(remarks)})
+    assert found.status == 4, "its status"
+    # Its companions are checked with a graph that is named.
+    for it in FAULTS:
+        os.remove(it)
+    accepted = sorted(set(chosen) - set(FAULTS))
+    rows: list[tuple[list[str], int]] = [([], 0), (["--strict"], 4)]
+    for words, status in rows:
+        found = run([f"{ROOT}/{fields['entry']}", *words, *accepted], env=environment)
+        assert found.status == status, f"pre-commit {words} of the others"
+
+
+@BOTH
+def test_by_ci(tested: str) -> None:
+    """The step of the workflow that checks the texts: GitHub shows each broken file."""
+    remarks, faults = make_collection(), {**FAULTS, **make_pipes()}
+    steps = STEP.findall(text_of(WORKFLOW))
+    environment = {**os.environ, "DNORM": os.path.abspath(tested), "RUNNER_TEMP": os.getcwd()}
+    environment["PATH"] = f"{ROOT}:{os.environ['PATH']}"
+    found = run(["bash", "-e", "-c", steps[1]], env=environment)
+    annotation = r"^::(?:error|warning) file=(.*?)(?:,line=\d+)?(?:,title=.*?)?::\./(.*?)(?:%0A.*)?$"
+    lines = re.findall(annotation, found.out.decode(), re.M)
+    told = {**faults, **remarked(remarks)}
+    are_named("CI", [line for _, line in lines], told)
+    files = [it.replace("%3A", ":").replace("%2C", ",") for it, _ in lines]
+    assert sorted(files) == sorted(told), "annotated files"
+    assert found.out.count(b"::warning ") == len(remarked(remarks)), "warnings"
+    assert found.status == 4, "its status"
+    assert f", {len(OTHERS)} other files\n".encode() in found.err, "other files are counted"

@@ -1,0 +1,77 @@
+"""The Python package beside the program: its table of refusals, its version and its names; the examples in its pages;
+and some calls by each Python on the path."""
+
+import doctest
+import os
+import shutil
+import sys
+
+import pytest
+from needs import pass_over
+from shared import ROOT, run, said
+from test_calls import READS
+from test_folders import ENVIRONMENT
+
+import dnorm
+
+pytestmark = READS
+# The Pythons that the package supports, and a call of each sort.
+PYTHONS = [f"python3.{it}" for it in range(9, 20)]
+SOME_CALLS = """
+import dnorm, io, pathlib
+text = pathlib.Path("examples/flow.min").read_bytes()
+print(dnorm.check("examples/roads.gr", "examples/sources.ss"), dnorm.checksum(io.BytesIO(text)))
+print(dnorm.compare(text, "examples/flow-cheaper.min"), dnorm.show(text).pairs, dnorm.read(text, 2).costs[0])
+try:
+    dnorm.canon_to("examples/refused/17-SumTooLarge.max", "none")
+except dnorm.Refused as error:
+    print(error)
+"""
+SOME_ANSWERS = """\
+Checked(kind='sp', fits='ss', forms=()) 431fd9d3cad523055ba5c48c5b077b8082c33c818c1bfafb875379504e475092
+differ pair 1 2 amount 5 cost 4 3 (CostPair(tail=1, head=2, forced=2, cost=3, steps=3),) 0
+examples/refused/17-SumTooLarge.max:6: 17 SumTooLarge
+"""
+# Evaluates the hints of all public names, and of the methods that the package gives them. Those of an error are none of
+# a call.
+HINTS = """
+import dnorm, inspect, typing
+for it in (getattr(dnorm, name) for name in dnorm.__all__):
+    if inspect.isfunction(it) or inspect.isclass(it):
+        typing.get_type_hints(it)
+    for method in vars(it).values() if inspect.isclass(it) and not issubclass(it, Exception) else []:
+        if inspect.isfunction(method) and method.__module__.startswith("dnorm."):
+            typing.get_type_hints(method)
+print("evaluated")
+"""
+
+
+def test_same_as_program(tested: str) -> None:
+    assert run([sys.executable, f"{ROOT}/tools/refusals", tested]) == said()
+    version = run([tested, "--version"]).out.decode().split()[1]
+    assert dnorm.__version__ == version.replace("-dev", ".dev0")
+
+
+def test_names() -> None:
+    modules = {name for name, it in vars(dnorm).items() if isinstance(it, type(sys))}
+    assert sorted(dnorm.__all__) == sorted(it for it in {*vars(dnorm)} - modules if not it.startswith("_"))
+
+
+@pytest.mark.parametrize("name", PYTHONS)
+def test_python(name: str) -> None:
+    """Some calls and a command with each Python on the path."""
+    environment = {**os.environ, **ENVIRONMENT}
+    # A shim of pyenv is there for a Python that is not.
+    if not shutil.which(name) or run([name, "--version"]).status:
+        pass_over(name)
+    for words, out in [(["-c", SOME_CALLS], SOME_ANSWERS), (["-c", HINTS], "evaluated\n")]:
+        assert run([name, "-W", "error", *words], cwd=ROOT, env=environment) == said(out)
+    found = run([name, "-m", "dnorm", "check", "examples/roads.gr"], cwd=ROOT, env=environment)
+    assert (found.out, found.status) == (b"examples/roads.gr: accepted sp\n", 0)
+
+
+def test_examples(monkeypatch: pytest.MonkeyPatch) -> None:
+    """The examples in python/README.md and in the package."""
+    monkeypatch.chdir(f"{ROOT}/examples")
+    for told in [doctest.testfile(f"{ROOT}/python/README.md", module_relative=False), doctest.testmod(dnorm)]:
+        assert told.failed == 0 and told.attempted

@@ -1,0 +1,756 @@
+"""Tests what people who read results get: causes of refusals, lists of names, time limits, lists of what texts contain,
+differences, manifests of folders, links, and names on a terminal."""
+
+import contextlib
+import csv
+import gzip
+import io
+import json
+import os
+import pickle
+import random
+import re
+import signal
+import sys
+import time
+from collections.abc import Callable
+from typing import Any
+from xml.etree import ElementTree
+
+import pytest
+from collection import zstd
+from known import COSTS, FLOWS, ROADS, ROADS_CANON
+from needs import leave_out, terminal
+from reading import Text as Known
+from reading import Fault, canonical, read
+from shared import LIMIT, ROOT, bytes_of, python_with, run, said, write
+from test_calls import BOTH, COMPRESS, READS, fake, told
+from test_folders import ENVIRONMENT, make, module, started
+from texts import lines_of, made, spelled
+
+import dnorm
+import dnorm.reader
+from dnorm.files import Text
+from dnorm.library import Status, instance_of
+from dnorm.limits import Limit
+
+pytestmark = READS
+SEED, ROUNDS = 21, 60
+# Refused texts, with the line and the hint of the refusal. A file is "t.gr".
+MANY = b"p max 3 3\nn 1 s\nn 3 t\na 1 2 9223372036854775800\na 1 3 1\na 1 2 8\n"
+NUL_WITHIN = "The line has NUL within, where data may be lost: get the file again"
+CAUSES: list[tuple[bytes, str | None, str | None]] = [
+    (b"p sp 2 1\na 1 3 7\n", "a 1 3 7", "NODES 2: nodes count from 1"),
+    (b"p aux sp ss 1\ns 0\n", "s 0", None),
+    (b"p sp 2 1\na 1 2 7.0\n", "a 1 2 7.0", "Scale to whole numbers; remove a fraction that is 0"),
+    (b"c\n", None, "The text has only comments, or the command that wrote it failed"),
+    (b"p sp 2 2\na 1 2 7\n", None, "declared 2, found 1: only a, s, q and v lines count"),
+    (b"p sp 2 1\na 1 2 7\r\n\ta\t1 1 1\r\n", "^Ia^I1 1 1^M", "declared 1, found 2: only a, s, q and v lines count"),
+    (b"p min 3 0\nc\nn 2 1\nn +02 5\n", "n +02 5", "Node +02 came first in line 3"),
+    (b"p max 3 0\nn 2 t\nn 1 t\n", "n 1 t", "The sink is node 2, by line 2"),
+    (b"p max 3 0\nn 2 s\nn 1 t\nn 3 s\n", "n 3 s", "The source is node 2, by line 2"),
+    (b"p aux sp co 2\nv 7 0 0\nv 7 1 1\n", "v 7 1 1", "Point 7 came first in line 2"),
+    (
+        MANY,
+        "a 1 2 8",
+        "The capacities from 1 to 2 sum to 9223372036854775800 before this line, and with it to " "9223372036854775808",
+    ),
+    (
+        b"p min 2 2\na 1 2 0 9223372036854775807 0\na 1 2 1 1 0\n",
+        "a 1 2 1 1 0",
+        "The capacities from 1 to 2 sum to 9223372036854775807 before this line, and with it to 9223372036854775808",
+    ),
+    (b"", None, "The file is empty"),
+    (b"p sp 0 0\nx" + b"\xe9" * 300, "x" + "M-i" * 199, None),
+    (b"p sp 0 0\n\x1a", "^Z", "The line ends in NUL or Ctrl-Z: tr -d '\\0\\032' < {} | dnorm check -"),
+    (b"p sp 2 1\na 1 2" + bytes(200) + b"7 9\n", "a 1 2" + "^@" * 195, NUL_WITHIN),
+    (b"p sp 2 1\na 1 2 3\0 ", "a 1 2 3^@ ", NUL_WITHIN),
+    (b"p sp 2 1\na 1 2 3" + bytes(9000), "a 1 2 3" + "^@" * 193, NUL_WITHIN),
+    (
+        b"p sp 2 1\na 1 2 3" + bytes(900),
+        "a 1 2 3" + "^@" * 193,
+        "The line ends in NUL or Ctrl-Z: tr -d '\\0\\032' < {} | dnorm check -",
+    ),
+    (
+        "p sp 0 0\n".encode("utf-32"),
+        "M-^?M-~^@^@" + "".join(f"{it}^@^@^@" for it in "p sp 0 0"),
+        "The file is in UTF-32: iconv -f UTF-32 -t UTF-8 < {} | dnorm check -",
+    ),
+    (
+        "p sp 0 0\n".encode("utf-16"),
+        "M-^?M-~" + "".join(f"{it}^@" for it in "p sp 0 0"),
+        "The file is in UTF-16: iconv -f UTF-16 -t UTF-8 < {} | dnorm check -",
+    ),
+    (
+        b"\xef\xbb\xbfp sp 0 0\n",
+        "M-oM-;M-?p sp 0 0",
+        "The file begins with a byte order mark: tail -c +4 < {} | " "dnorm check -",
+    ),
+    (
+        b"version https://git-lfs.github.com/spec/v1\n",
+        "version https://git-lfs.github.com/spec/v1",
+        "The file is a pointer of Git LFS, and the text is missing: git lfs pull",
+    ),
+]
+
+
+def test_causes() -> None:
+    """The line and the hint of refusals of files, compressed files, bytes and streams."""
+    for text, line, hint in CAUSES:
+        write("t.gr", text)
+        write("t.gr.gz", gzip.compress(text))
+        # A command applies to a file that is not compressed.
+        plain = hint and re.split(": (?:tr|tail|iconv) ", hint)[0]
+        rows: list[tuple[dnorm.File, str | None, str | None]] = [("t.gr", line, hint and hint.format("t.gr"))]
+        rows += [("t.gr.gz", line, plain), (text, line, plain), (io.BytesIO(text), None, None)]
+        for file, wanted, more in rows:
+            calls: list[Callable[[dnorm.File], object]] = [dnorm.check, lambda it: dnorm.compare(ROADS, it)]
+            for call in calls:
+                try:
+                    call(file)
+                    pytest.fail(f"{text!r} is accepted")
+                except dnorm.Refused as error:
+                    assert (error.text, error.hint) == (wanted, more), f"the cause in {text!r:.60} as {file!r:.20}"
+                if isinstance(file, io.BytesIO):
+                    file.seek(0)
+    write("s.ss", b"p aux sp p2p 3\nc 9\nq 2 1\nq 3 +009\nq 9 9\n")
+    companions: list[dnorm.File] = ["s.ss", bytes_of("s.ss")]
+    for file in companions:
+        try:
+            dnorm.check(ROADS, file)
+        except dnorm.Refused as error:
+            found = (error.number, error.node, error.text, error.hint)
+            assert found == (35, 9, None, "line 4 names it: q 3 +009"), "a companion"
+    first = dnorm.Refused("a.gr", 3, 13, "NodeOutOfRange", None, "a 1 3 7", "NODES 2: nodes count from 1")
+    found_: list[dnorm.DnormError] = [first, dnorm.TimedOut("a.gr", 2.5)]
+    for it in found_:
+        again = pickle.loads(pickle.dumps(it))
+        assert (str(again), vars(again)) == (str(it), vars(it)), f"{it!r}, pickled"
+    long = b"c\n" * 300_000
+    write("t.gr", long + b"x" * 100_000 + b"\n")
+    try:
+        dnorm.check("t.gr")
+    except dnorm.Refused as error:
+        assert (error.line, error.text) == (300_001, "x" * 200), "a line behind others"
+    shown = module("check", "--output-format", "github", "t.gr", "missing,:%.gr")
+    begin = f"::error file=t.gr,line=300001,title=dnorm%3A 1 BadLine::t.gr:300001: 1 BadLine%0A{dnorm.REFUSALS[1][1]}"
+    lines = f"{begin}%0Aline 300001: {'x' * 200}\n"
+    missing = "::error file=missing%2C%3A%25.gr::missing,:%25.gr: 31 Read (No such file or directory)\n"
+    assert shown == said(missing + lines, "0 accepted, 1 refused, 1 failed\n", 4), "--output-format github"
+
+
+# Files that are not what their names say, with the hint that they have.
+PACKED: dict[str, tuple[bytes, str]] = {
+    "plain.gr.gz": (ROADS, "The file is not compressed: dnorm check - < plain.gr.gz"),
+    "lfs.gr.gz": (
+        b"version https://git-lfs.github.com/spec/v1\noid sha256:0\n",
+        "The file is a pointer of Git LFS, and the text is missing: git lfs pull",
+    ),
+    "cut.gr.bz2": (COMPRESS[".bz2"](ROADS)[:-5], "The file is cut or damaged: get it again"),
+    "zip.gr.xz": (
+        b"PK\x03\x04..",
+        "The file is a zip archive, and its name says another thing: unzip -p zip.gr.xz | " "dnorm check -",
+    ),
+    "empty.gr.gz": (b"", "The file is empty"),
+    "noise.gr.gz": (b"\x80\x81", "The file is not compressed as its name says"),
+}
+
+
+def test_hints_of_failures() -> None:
+    """The hints of files that are not compressed as their names say, in each format."""
+    for name, (data, _hint) in PACKED.items():
+        write(name, data)
+    names = sorted(PACKED)
+    found = module("check", *names)
+    told_ = [it.strip() for it in found.err.decode().splitlines() if it.startswith("    ")]
+    assert told_ == [PACKED[it][1] for it in names], "hints as text"
+    records = [json.loads(it) for it in module("check", "--json", *names).out.splitlines()]
+    assert [it["hint"] for it in records] == [PACKED[it][1] for it in names], "hints in JSON"
+    lines = module("check", "--output-format", "github", *names).out.decode().splitlines()
+    assert [it.partition("%0A")[2] for it in lines] == [PACKED[it][1] for it in names], "hints for GitHub"
+    module("check", "--junit", "report", *names)
+    texts = [it.text for it in ElementTree.parse("report").iter("error")]
+    assert texts == [PACKED[it][1] for it in names], "hints in XML"
+    try:
+        dnorm.read("plain.gr.gz")
+    except dnorm.Read as error:
+        assert error.hint == PACKED["plain.gr.gz"][1], "a hint of a call"
+        again = pickle.loads(pickle.dumps(error))
+        assert (str(again), vars(again)) == (str(error), vars(error)), "a hint, pickled"
+    write("a.ss", b"p aux sp ss 0\n")
+    write("a.gr", ROADS)
+    try:
+        dnorm.check("a.ss", "a.gr")
+    except dnorm.Refused as error:
+        wanted = "The graph comes first, an sp text, and then the companion, an ss, p2p or co text"
+        assert (error.number, error.hint) == (36, wanted), "swapped arguments"
+    found = run([f"{ROOT}/dnorm-explain"], b"a.gr: 36 NotKinds\n", env={**os.environ, **ENVIRONMENT})
+    assert wanted.encode() in found.out, f"dnorm-explain of 36: {found.out!r}"
+
+
+def test_documents() -> None:
+    """The document of SARIF, and CSV with an odd name."""
+    make({"s/a b.gr": ROADS, "s/bad.gr": b"p sp 2 1\na 1 3 7\n", "s/end.gr": b"c\n", "s/k.max": ROADS})
+    found = module("check", "--output-format", "sarif", "s", "none.gr")
+    assert (found.err, found.status) == (
+        b"2 accepted, 2 refused, 1 failed, 1 file of another kind than its ending\n",
+        4,
+    ), "the end of a SARIF run"
+    document = json.loads(found.out)
+    results = document["runs"][0]["results"]
+    assert (document["version"], len(document["runs"])) == ("2.1.0", 1), "the version"
+    places = [it["locations"][0]["physicalLocation"] for it in results]
+    assert [(it["artifactLocation"]["uri"], it.get("region")) for it in places] == [
+        ("none.gr", None),
+        ("s/bad.gr", {"startLine": 2}),
+        ("s/end.gr", None),
+        ("s/k.max", None),
+    ], "places"
+    assert [it["level"] for it in results] == ["error", "error", "error", "warning"], "levels"
+    assert [it.get("ruleId") for it in results] == [None, "NodeOutOfRange", "NoProblem", None], "rules"
+    rules = {it["id"] for it in document["runs"][0]["tool"]["driver"]["rules"]}
+    assert {"NodeOutOfRange", "NoProblem"} <= rules, "the rules are described"
+    told_ = "A node is not in 1 to NODES; in a companion, below 1. line 2: a 1 3 7 NODES 2: nodes count from 1"
+    assert results[1]["message"]["text"] == told_, "a message"
+    odd = ["c\r.gr", "d\n.gr", 'e",.gr']
+    for it in odd:
+        write(it, ROADS)
+    rows = list(csv.DictReader(io.StringIO(module("list", "--csv", *odd).out.decode(), newline="")))
+    assert [(it["name"], it["kind"]) for it in rows] == [(it, "sp") for it in odd], "odd names in CSV"
+
+
+def test_compressions() -> None:
+    """Names of compressed files in capitals, those of unknown compressions, and zstd where a module reads it."""
+    for end, compress in COMPRESS.items():
+        dnorm.canon_to(ROADS, f"t{end.upper()}")
+        assert bytes_of(f"t{end.upper()}")[:3] == compress(ROADS_CANON)[:3], f"canon_to {end.upper()}"
+        assert told(lambda: dnorm.canon(f"t{end.upper()}")) == ROADS_CANON.decode(), f"canon {end.upper()}"
+    unknown = {".Z": "compress", ".z": "compress", ".lz4": "lz4", ".zip": "zip", ".BR": "brotli", ".7z": "7-Zip"}
+    unknown |= {".lzma": "lzma", ".zstd": ".zstd", ".tgz": ".tgz", ".gz.xz": ".gz.xz", ".tar.gz": ".tar.gz"}
+    for end, what in unknown.items():
+        write(f"t{end}", ROADS)
+        for name in [f"t{end}", f"none{end}"]:
+            reason = f"{what} is not supported"
+            if name in os.listdir("."):
+                assert told(lambda: dnorm.check(name)) == f"Read: {name}: 31 Read ({reason})", f"check {name}"
+            found = told(lambda: dnorm.canon_to(ROADS, name))
+            assert found == f"Write: {name}: 33 Write ({reason})", f"canon_to {name}"
+            found_ = module("manifest", "--output", name, f"{ROOT}/examples/roads.gr")
+            assert (found_.err, found_.status) == (f"{name}: 33 Write ({reason})\n".encode(), 4), f"--output {name}"
+        assert bytes_of(f"t{end}") == ROADS, f"t{end} is kept"
+    assert sorted(os.listdir(".")) == sorted([*(f"t{it}" for it in unknown), "t.GZ", "t.BZ2", "t.XZ"]), "no other file"
+    for name, what in {
+        "t.gr.new": ".new",
+        "t.MIN.txt": ".txt",
+        "t.gr.gz.gz": ".gz.gz",
+        "t.gr.": ".",
+        "t.grz": ".grz",
+    }.items():
+        found = told(lambda: dnorm.canon_to(ROADS, name))
+        assert found == f"Write: {name}: 33 Write ({what} is not supported)", f"canon_to {name}"
+        assert not os.path.exists(name), f"no {name}"
+    write("t.gr.old", ROADS)
+    assert told(lambda: dnorm.check("t.gr.old")) == "accepted sp\nforms none\n", "another name is read"
+    dnorm.canon_to(ROADS, "jquery.min.js")
+    assert bytes_of("jquery.min.js") == ROADS_CANON, "a page's name"
+    zstandard()
+
+
+BY_ZSTANDARD = """
+import dnorm, sys
+print(dnorm.check("t.gr.zst"), dnorm.checksum("t.gr.zst") == dnorm.checksum("t.gr"))
+dnorm.canon_to("large.gr", "large.gr.ZST")
+print(dnorm.checksum("large.gr.ZST") == dnorm.checksum("large.gr"))
+data = open("large.gr.ZST", "rb").read()
+for end in range(0, len(data), len(data) // 50 + 1):
+    open("cut.zst", "wb").write(data[:end])
+    open("damaged.zst", "wb").write(data[:end] + bytes([data[end] ^ 85]) + data[end + 1:])
+    open("more.zst", "wb").write(data + data[: end + 1])
+    for name in ["cut.zst", "damaged.zst", "more.zst"]:
+        try:
+            dnorm.canon(name)
+            print(name, end, "is read")
+        except dnorm.Read:
+            pass
+open("two.zst", "wb").write(data[:0] + open("t.gr.zst", "rb").read() + bytes(9))
+print(dnorm.check("two.zst").kind)
+"""
+
+
+# A module with the members of `compression.zstd` in Python 3.14 that the package uses, as its documentation has them.
+OF_3_14 = """
+import zstandard
+ZstdError = zstandard.ZstdError
+
+class CompressionParameter:
+    checksum_flag = 201
+
+class ZstdDecompressor:
+    def __init__(self):
+        self._it, self._rest, self.eof, self.unused_data = zstandard.ZstdDecompressor().decompressobj(), b"", False, b""
+
+    def decompress(self, data, max_length=-1):
+        if self.eof:
+            raise EOFError("the end was reached before")
+        self._rest += b"" if self._it.eof else self._it.decompress(data)
+        found, self._rest = self._rest[:max_length], self._rest[max_length:]
+        self.eof = self._it.eof and not self._rest
+        self.unused_data = self._it.unused_data if self.eof else b""
+        return found
+
+class ZstdFile:
+    def __init__(self, file, mode, *, level=None, options=None):
+        assert mode == "wb" and options == {201: 1}
+        self._it = zstandard.ZstdCompressor(write_checksum=True).stream_writer(file, closefd=False)
+        self.write, self.close = self._it.write, self._it.close
+"""
+
+
+def zstandard() -> None:
+    """Zstd by a Python that has the module zstandard, as Python 3.14 does it, and without a module."""
+    write("t.gr.zst", zstd(ROADS))
+    write("t.gr", ROADS)
+    write("large.gr", "p sp 50000 50000\n" + "".join(f"a {it} 1 {it * it % 9973}\n" for it in range(1, 50_001)))
+    python = python_with("zstandard")
+    if python:
+        found = run([python, "-c", BY_ZSTANDARD], env={**os.environ, **ENVIRONMENT})
+        wanted = "Checked(kind='sp', fits=None, forms=()) True\nTrue\nsp\n"
+        assert (found.out.decode(), found.err, found.status) == (wanted, b"", 0), "zstd"
+        make({"later/compression/__init__.py": b"", "later/compression/zstd.py": OF_3_14.encode()})
+        path = f"{os.getcwd()}/later:{ENVIRONMENT['PYTHONPATH']}"
+        found = run([python, "-c", BY_ZSTANDARD], env={**os.environ, **ENVIRONMENT, "PYTHONPATH": path})
+        assert (found.out.decode(), found.err, found.status) == (wanted, b"", 0), "zstd of 3.14"
+    else:
+        leave_out("the module zstandard")
+    code = "import sys; sys.modules['zstandard'] = None; import dnorm; dnorm.check('t.gr.zst')"
+    found = run([sys.executable, "-c", code], env={**os.environ, **ENVIRONMENT})
+    if sys.version_info < (3, 14):
+        line = found.err.decode().splitlines()[-1]
+        reason = "t.gr.zst: 31 Read (zstd needs Python 3.14 or the module zstandard)"
+        assert line == f"dnorm.errors.Read: {reason}", "zstd without a module"
+
+
+def test_names_given() -> None:
+    """Names from standard input and from a file."""
+    make({"a/x.gr": ROADS, "a/y\nz.gr": ROADS, "b.min": COSTS})
+    lines = {it: f"{it}: accepted {kind}\n" for it, kind in [("a/x.gr", "sp"), ("b.min", "min")]}
+    lines["a/y\nz.gr"] = "\\a/y\\nz.gr: accepted sp\n"
+    all_ = "".join(lines[it] for it in sorted(lines))
+    write("list", "a/y\nz.gr\0b.min\0a/x.gr")
+    for words, given, out, status in [
+        ("check -", b"b.min\na/x.gr\n", lines["a/x.gr"] + lines["b.min"], 0),
+        ("check -", b"b.min\na/x.gr", lines["a/x.gr"] + lines["b.min"], 0),
+        ("check - a/x.gr", b"b.min\n", lines["a/x.gr"] + lines["b.min"], 0),
+        ("check -", b"a\nb.min\n", all_, 0),
+        ("check --files0-from -", b"a\0b.min\0", all_, 0),
+        ("check --files0-from list", b"", all_, 0),
+        ("check --files0-from list -", b"b.min\n", all_, 0),
+    ]:
+        found = module(*words.split(), given=given)
+        count = f"{out.count(': accepted ')} accepted, 0 refused, 0 failed\n"
+        assert found == said(out, count, status), f"{words} < {given!r}"
+    for words, name, reason in [
+        ("check -", "-", "it names no file"),
+        ("list --files0-from -", "-", "it names no file"),
+        ("same --files0-from none", "none", "No such file or directory"),
+    ]:
+        assert module(*words.split()) == said("", f"{name}: 31 Read ({reason})\n", 4), words
+    found = module("check", "-", given=b"\nb.min\n")
+    assert (found.out.decode().splitlines()[0], found.status) == (
+        ": 31 Read (No such file or directory)",
+        4,
+    ), "a name without a character"
+
+
+@BOTH
+def test_time_limits() -> None:
+    """Calls and commands that take too long: a program, a FIFO without a writer, and one whose writer waits."""
+    slow = fake("slow", "exec sleep 60")
+    os.mkfifo("pipe.gr")
+    os.mkfifo("pipe.gr.gz")
+    write("t.gr", ROADS)
+    rows: list[tuple[str, Callable[[], object], str]] = [
+        ("a slow program", lambda: dnorm.check("t.gr", program=slow, timeout=0.3), "t.gr"),
+        ("a slow program and bytes", lambda: dnorm.canon(b"c" * 10**6, program=slow, timeout=0.3), "-"),
+        ("a FIFO", lambda: dnorm.show("pipe.gr", timeout=0.3), "pipe.gr"),
+        ("a compressed FIFO", lambda: dnorm.checksum("pipe.gr.gz", timeout=0.3), "pipe.gr.gz"),
+        ("a second FIFO", lambda: dnorm.compare("t.gr", "pipe.gr", timeout=0.3), "t.gr"),
+        ("no time", lambda: dnorm.read("t.gr", timeout=0), "t.gr"),
+        ("differences", lambda: dnorm.differences("t.gr", "t.gr", program=slow, timeout=0.3), "t.gr"),
+    ]
+    with open("pipe.gr", "rb+", buffering=0), open("pipe.gr.gz", "rb+", buffering=0) as file:
+        file.write(gzip.compress(ROADS)[:20])
+        waiting = [*rows]
+        before(waiting)
+    before(rows)
+    kept = signal.signal(signal.SIGALRM, ring)
+    signal.setitimer(signal.ITIMER_REAL, 0.2)
+    try:
+        dnorm.check("pipe.gr")
+        pytest.fail("a FIFO is opened")
+    except TimeoutError as error:
+        assert str(error) == "mine", "an alarm while a FIFO is opened"
+    signal.signal(signal.SIGALRM, kept)
+    in_time = [
+        dnorm.check("t.gr", timeout=60).kind,
+        dnorm.canon("t.gr", timeout=60),
+        dnorm.read("t.gr", timeout=60).kind,
+    ]
+    assert in_time == ["sp", ROADS_CANON, "sp"], "calls in time"
+    found = module("check", "--timeout", "0.5", "t.gr", "pipe.gr")
+    lines = "pipe.gr: took more than 0.5 seconds\n"
+    assert found == said(f"{lines}t.gr: accepted sp\n", f"{lines}1 accepted, 0 refused, 1 failed\n", 4), "--timeout"
+
+
+def ring(*_: object) -> None:
+    raise TimeoutError("mine")
+
+
+def lack_memory(*_: object) -> None:
+    raise MemoryError
+
+
+class SlowLibrary:
+    """Stands for a library whose last step takes a second. It says how often it was freed."""
+
+    def __init__(self) -> None:
+        self.freed = 0
+        self.begin = self.feed = lambda *_: Status()
+
+    def finish(self, _: object) -> Status:
+        time.sleep(1)
+        return Status()
+
+    def free(self, _: object) -> None:
+        self.freed += 1
+
+
+def test_long_steps() -> None:
+    """A step of the library that takes long ends no later than the limit, and frees its memory at its end;
+    and that limits are not below 0."""
+    library: Any = SlowLibrary()
+    start = time.monotonic()
+    with contextlib.ExitStack() as stack:
+        text = Text(ROADS, stack, Limit(0.2, "-"))
+        found = told(lambda: stack.enter_context(instance_of(library, text, 1)))
+    took = time.monotonic() - start
+    assert (found, library.freed) == ("TimedOut: -: took more than 0.2 seconds", 0), "a long step"
+    assert took < 0.6, f"it takes {took} s"
+    time.sleep(1)
+    assert library.freed == 1, "it is freed once"
+    kept = dnorm.reader.instance
+    setattr(dnorm.reader, "instance", lack_memory)
+    assert told(lambda: dnorm.read(ROADS)) == "Memory: -: 30 Memory", "little memory for columns"
+    setattr(dnorm.reader, "instance", kept)
+    assert (
+        told(lambda: dnorm.check(ROADS, timeout=-1)) == "ValueError: timeout is at least 0, and not -1"
+    ), "a limit below 0"
+
+
+def before(rows: list[tuple[str, Callable[[], object], str]]) -> None:
+    """Calls end soon."""
+    for what, call, name in rows:
+        start = time.monotonic()
+        timeout = "0" if what == "no time" else "0.3"
+        assert told(call) == f"TimedOut: {name}: took more than {timeout} seconds", what
+        assert time.monotonic() - start < 10, f"{what} ends soon"
+
+
+def test_folders_of_manifests() -> None:
+    """What `manifest --verify` says of files that are gone and of files that the manifest lacks; and JSON."""
+    make({"set/a.gr": ROADS, "set/b.min": COSTS, "set/c.gr": b"p sp 1 0\n", "set/notes": b"x"})
+    module("manifest", "--output", "list", "set")
+    sums = {name: it for it, name in (line.split() for line in bytes_of("list").decode().splitlines())}
+    os.remove("set/a.gr")
+    write("set/b.min", FLOWS)
+    make({"set/below/new.gr": ROADS, "set/bad.gr": b"x\n"})
+    lines = "set/a.gr: gone\nset/b.min: differs\nset/c.gr: same\n"
+    count = "1 the same, 1 different, 0 refused, 0 failed, 1 gone"
+    assert module("manifest", "--verify", "list") == said(lines, f"{count}\n", 1), "what is gone"
+    more = "set/bad.gr: not listed\nset/below/new.gr: not listed\n"
+    for path in ["set", "./set/", os.path.abspath("set")]:
+        found = module("manifest", "--verify", "list", path)
+        lines_ = lines + more.replace("set/", os.path.join(path, ""))
+        assert found == said(lines_, f"{count}, 2 not listed, 1 other file\n", 1), f"what {path} has"
+    found = module("manifest", "--verify", "list", "-q", "--exclude", "bad.gr", "set")
+    lines = lines.replace("set/c.gr: same\n", "") + "set/below/new.gr: not listed\n"
+    assert found == said(lines, f"{count}, 1 not listed, 1 other file\n", 1), "-q"
+    found = module("manifest", "--verify", "list", "--json", "set", "none")
+    records = [json.loads(it) for it in found.out.splitlines()]
+    assert {it["name"]: it["status"] for it in records} == {
+        "set/a.gr": "gone",
+        "set/b.min": "differs",
+        "set/c.gr": "same",
+        "set/bad.gr": "not listed",
+        "set/below/new.gr": "not listed",
+        "none": "failed",
+    }, "statuses in JSON"
+    assert records[0] == {"name": "set/a.gr", "status": "gone", "checksum": sums["set/a.gr"], "form": 1}, "a record"
+    found = module("manifest", "--json", "--form", "2", "set")
+    records = [json.loads(it) for it in found.out.splitlines()]
+    assert [(it["name"], it["status"]) for it in records] == [
+        ("set/b.min", "listed"),
+        ("set/bad.gr", "refused"),
+        ("set/below/new.gr", "listed"),
+        ("set/c.gr", "listed"),
+    ], "a manifest in JSON"
+    wanted = {"name": "set/c.gr", "status": "listed", "checksum": sums["set/c.gr"], "form": 2}
+    assert (records[3], found.status) == (wanted, 2), "its records"
+
+
+def test_links() -> None:
+    """That `same` takes no link for a file of its own, and its groups in JSON."""
+    make({"set/b.gr": ROADS, "set/sub/c.gr": ROADS_CANON, "set/one.min": COSTS})
+    os.symlink("b.gr", "set/a.gr")
+    os.link("set/sub/c.gr", "set/sub/d.gr")
+    os.symlink("one.min", "set/also-one.min")
+    found = module("same", "set")
+    assert found == said("set/b.gr\nset/sub/c.gr\n", "6 accepted, 0 refused, 0 failed, 1 group, 3 links\n", 0), "same"
+    found = module("same", "--json", "set")
+    wanted = {"checksum": dnorm.checksum(ROADS), "names": ["set/b.gr", "set/sub/c.gr"]}
+    assert [json.loads(it) for it in found.out.splitlines()] == [wanted], "same --json"
+
+
+def test_on_terminal() -> None:
+    """Names cannot command a terminal, and reach a file as they are."""
+    names = ["a\x1b[31m\t.gr", "b\x7f\x9b\u202e.gr", os.fsdecode(b"c\x9b\xff.gr"), "dé.gr"]
+    shown = [r"a\x1b[31m\x09.gr", r"b\x7f\xc2\x9b\xe2\x80\xae.gr", r"c\x9b\xff.gr", "dé.gr"]
+    for it in names:
+        write(it, b"x\n")
+    upper, lower = terminal()
+    process = started("check", *names, stdout=lower, stderr=lower)
+    os.close(lower)
+    said = b""
+    with contextlib.suppress(OSError):
+        while piece := os.read(upper, 4096):
+            said += piece
+    os.close(upper)
+    process.wait(LIMIT)
+    lines = [it.rpartition("\r")[2] for it in said.decode().replace("\r\n", "\n").split("\n")]
+    assert lines[:4] == [f"{it}:1: 1 BadLine" for it in shown], "names on a terminal"
+    assert lines[4:12:2] == [f"{it}:1: 1 BadLine" for it in shown], "names on a terminal, again"
+    found = module("check", "-q", *names)
+    assert found.out == b"".join(os.fsencode(f"{it}:1: 1 BadLine\n") for it in names), "names in a pipe"
+
+
+LARGE = b"p min 4 4\nn 1 9000000000\nn 4 -7\na 1 2 0 9223372036854775807 -2147483649\na 2 2 1 1 0\na 1 2 0 0 5\n"
+LARGE += b"a 3 1 0 2 1\n"
+# Texts, and what `list` says of them below the line of the name.
+LISTED: dict[str, tuple[bytes, str]] = {
+    "a.gr": (ROADS, "nodes 3, without arcs 0|lines 7, canonical 5, merged 2, self-loops 1|length -5 to 9, 31 bits"),
+    "b.min": (
+        LARGE,
+        "nodes 4, without arcs 1|lines 4, canonical 3, merged 1, self-loops 1|"
+        "flow -7 to 9000000000, 53 bits|low 0 to 1, 31 bits|cap 1 to 9223372036854775807, 64 bits|"
+        "cost -2147483649 to 1, 32 bits|"
+        f"sums: capacity {2**63 + 2}, capacity times cost {(2**63 - 1) * 2147483649 + 2}, supply 9000000000, "
+        "demand 7",
+    ),
+    "c.max": (
+        b"p max 5 3\nn 5 s\nn 1 t\na 5 1 3000000000\na 5 1 3000000000\na 1 5 0\n",
+        "nodes 5, without arcs 3|lines 3, canonical 1, merged 2, self-loops 0|cap 6000000000 to 6000000000, "
+        "53 bits|sums: capacity 6000000000",
+    ),
+    "d.co": (
+        b"p aux sp co 2\nv 9 -4294967295 1\nv 3 7 4294967296\n",
+        "lines 2, canonical 2|id 3 to 9, 31 bits|" "x -4294967295 to 7, 32 bits|y 1 to 4294967296, 53 bits",
+    ),
+    "e.p2p": (b"p aux sp p2p 2\nq 1 7\nq 1 2\n", "lines 2, canonical 2|source 1 to 1, 31 bits|target 2 to 7, 31 bits"),
+    "f.sp": (b"p sp 2 0\n", "nodes 2, without arcs 2|lines 0, canonical 0, merged 0, self-loops 0"),
+    "g.ss": (b"p aux sp ss 0\n", "lines 0, canonical 0"),
+}
+
+
+@BOTH
+def test_lists() -> None:
+    """Tests `list`: its lines, its JSON objects and its table."""
+    make({f"set/{name}": text for name, (text, _) in LISTED.items()})
+    write("set/h.gr.gz", gzip.compress(b"c\n\tp sp  2 1\na 1 2 3\n"))
+    write("set/x.gr", b"x\n")
+    rows = {
+        **LISTED,
+        "h.gr.gz": (
+            b"c\n\tp sp  2 1\na 1 2 3\n",
+            "nodes 2, without arcs 0|lines 1, canonical 1, " "merged 0, self-loops 0|length 3 to 3, 31 bits",
+        ),
+    }
+    lines, sums = "", {}
+    for name, (text, more) in rows.items():
+        sums[name] = dnorm.checksum(text)
+        kind = dnorm.check(text).kind
+        told_of = [f"bytes {len(text)}", *more.split("|"), f"checksum {sums[name]}"]
+        below = "".join(f"    {it}\n" for it in told_of)
+        lines += f"set/{name}: {kind}\n{below}"
+    count = "8 listed, 1 refused, 0 failed\n"
+    assert module("list", "set") == said(lines, f"set/x.gr:1: 1 BadLine\n{count}", 2), "list"
+    found = module("list", "--json", "set")
+    records = [json.loads(it) for it in found.out.splitlines()]
+    assert [(it["name"], it.get("checksum")) for it in records] == [
+        *((f"set/{name}", sums[name]) for name in rows),
+        ("set/x.gr", None),
+    ], "list --json"
+    wanted = {
+        "name": "set/c.max",
+        "kind": "max",
+        "bytes": len(LISTED["c.max"][0]),
+        "nodes": 5,
+        "declared": 3,
+        "canonical": 1,
+        "merged": 2,
+        "self_loops": 0,
+    }
+    wanted |= {"without_arcs": 3, "capacity": 6000000000, "capacity_times_cost": None, "supply": None, "demand": None}
+    wanted |= {"fields": {"cap": {"least": 6000000000, "greatest": 6000000000, "bits": 53}}, "checksum": sums["c.max"]}
+    assert records[2] == wanted, "a record"
+    found = module("list", "--csv", "set")
+    table = list(csv.DictReader(io.StringIO(found.out.decode())))
+    assert [(it["name"], it["checksum"]) for it in table] == [(f"set/{it}", sums[it]) for it in rows], "list --csv"
+    told_ = [table[1][it] for it in ["kind", "nodes", "cost_least", "cost_bits", "length_bits", "capacity_times_cost"]]
+    assert told_ == ["min", "4", "-2147483649", "32", "", str((2**63 - 1) * 2147483649 + 2)], "a row"
+    form = module("list", "--form", "2", "--json", "set/b.min").out
+    assert json.loads(form)["checksum"] == dnorm.checksum(LARGE, 2), "list --form 2"
+
+
+# Changes of a text with the arcs below, and the lines that `compare` prints below the first one.
+ARCS = {(1, 2): "2 40 331", (2, 3): "0 7 1", (3, 1): "0 5 2"}
+
+
+def costly(arcs: dict[tuple[int, int], str], nodes: int = 3, flow: int = 4) -> bytes:
+    """Returns a text with these arcs."""
+    lines = "".join(f"a {tail} {head} {more}\n" for (tail, head), more in arcs.items())
+    return f"p min {nodes} {len(arcs)}\nn 1 {flow}\nn 3 -4\n{lines}".encode()
+
+
+CHANGED: list[tuple[bytes, str]] = [
+    (costly(ARCS), "pairs: 0 only left, 0 only right, 3 in both, 0 of them different"),
+    (
+        costly({**ARCS, (1, 2): "0 40 331"}),
+        "pairs: 0 only left, 0 only right, 3 in both, 1 of them different|"
+        "different in low: 1|< a 1 2 2 40 331|> a 1 2 0 40 331",
+    ),
+    (
+        costly({**ARCS, (1, 2): "0 7 5"}),
+        "pairs: 0 only left, 0 only right, 3 in both, 1 of them different|"
+        "different in low cap cost: 1|< a 1 2 2 40 331|> a 1 2 0 7 5",
+    ),
+    (
+        costly({(2, 3): "0 7 1", (3, 1): "0 5 2"}),
+        "pairs: 1 only left, 0 only right, 2 in both, 0 of them different|" "< a 1 2 2 40 331",
+    ),
+    (
+        costly({(2, 1): "2 40 331", (2, 3): "0 7 1", (3, 1): "0 5 2"}),
+        "pairs: 1 only left, 1 only right, 2 in both, "
+        "0 of them different|reversed: 1, from 1 2|< a 1 2 2 40 331|> a 2 1 2 40 331",
+    ),
+    (
+        costly({it: f"{more}0" for it, more in ARCS.items()}, 4),
+        "nodes: 3 left, 4 right|pairs: 0 only left, 0 only "
+        "right, 3 in both, 3 of them different|different in cost: 3|< a 1 2 2 40 331|> a 1 2 2 40 3310|< a 2 3 0 7 1|"
+        "> a 2 3 0 7 10|< a 3 1 0 5 2|> a 3 1 0 5 20",
+    ),
+    (costly(ARCS, flow=5), "supplies: 1 different|pairs: 0 only left, 0 only right, 3 in both, 0 of them different"),
+    (ROADS, ""),
+]
+
+
+@BOTH
+def test_comparisons(tested: str) -> None:
+    """Tests `compare` on mistakes of writers, and the repr of what `show` returns."""
+    write("left", costly(ARCS))
+    for text, lines in CHANGED:
+        write("right", text)
+        first = run([tested, "compare", "left", "right"])
+        found = module("compare", "left", "right")
+        wanted = first.out.decode() + "".join(f"{it}\n" for it in lines.split("|") if it)
+        assert found == said(wanted, "", first.status), f"compare with {text!r}"
+    write("right", CHANGED[5][0])
+    found = module("compare", "--limit", "0", "left", "right")
+    assert (len(found.out.splitlines()), found.status) == (4, 1), "compare --limit 0"
+    write("right", costly({(2, 1): "2 40 331", (3, 2): "0 7 1", (3, 1): "0 5 2"}))
+    for limit, turned in [("1", "1 2, .."), ("2", "1 2, 2 3")]:
+        found = module("compare", "--limit", limit, "left", "right")
+        assert f"\nreversed: 2, from {turned}\n".encode() in found.out, f"compare --limit {limit}: {found}"
+    for name, text, line, status in [
+        ("bad", b"x\n", "bad:1: 1 BadLine\n    line 1: x\n", 2),
+        ("bad.lz4", b"x\n", "bad.lz4: 31 Read (lz4 is not supported)\n", 4),
+    ]:
+        write(name, text)
+        assert module("compare", "left", name) == said("", line, status), f"compare with {name}"
+    companions = [
+        (
+            b"p aux sp ss 2\ns 1\ns 5\n",
+            b"p aux sp ss 1\ns 2\n",
+            "items: 1 only left, 0 only right, 1 in "
+            "both, 1 of them different|different in source: 1|< s 1, item 1|> s 2, item 1|< s 5, item 2",
+        ),
+        (
+            b"p aux sp co 1\nv 7 1 2\n",
+            b"p aux sp co 1\nv 7 1 3\n",
+            "points: 0 only left, 0 only right, 1 in "
+            "both, 1 of them different|different in y: 1|< v 7 1 2|> v 7 1 3",
+        ),
+    ]
+    for left, right, lines in companions:
+        write("left", left)
+        write("right", right)
+        found = module("compare", "left", "right")
+        assert found.out.decode().splitlines()[1:] == lines.split("|"), f"compare {left!r}"
+    shown = dnorm.show("p sp 2000 2000\n".encode() + b"".join(b"a %d 1 7\n" % it for it in range(1, 2001)))
+    assert repr(shown) == "<dnorm.Shown: kind='sp', lines=2000, nodes=2000, 2000 pairs>", "a short repr"
+    short = "<dnorm.Differences: differ pair 1 2 length 3 none, only_left=5, only_right=0, both=0, different=0>"
+    assert repr(dnorm.differences(ROADS, b"p sp 3 0\n")) == short, "the repr of differences"
+    assert repr(dnorm.show(b"p aux sp ss 0\n")) == "<dnorm.Shown: kind='ss', lines=0>", "a companion's repr"
+
+
+def test_compared_quietly() -> None:
+    """Tests `compare` as JSON, without output, and with standard input."""
+    write("left", costly(ARCS))
+    write("right", CHANGED[5][0])
+    record = json.loads(module("compare", "--json", "--limit", "1", "left", "right").out)
+    wanted_ = (False, "differ nodes 3 4", 3, [["nodes", 3, 4]], [1, 2])
+    told_ = (record["same"], record["first"], record["different"], record["values"], record["pairs"][0]["key"])
+    assert told_ == wanted_, "compare --json"
+    for words, status in [("left right", 1), ("left left", 0)]:
+        assert module("compare", "-q", *words.split()) == said("", "", status), f"compare -q {words}"
+    for words in ["- left", "left -"]:
+        piped = module("compare", "-q", *words.split(), given=bytes_of("left"))
+        assert piped == said("", "", 0), f"compare -q {words}"
+
+
+def by_pair(text: Known) -> dict[tuple[str, ...], list[list[str]]]:
+    """Returns the arcs of a canonical text of form 2 by their pairs."""
+    found: dict[tuple[str, ...], list[list[str]]] = {}
+    for line in canonical(text, 2).decode().splitlines():
+        if line.startswith("a "):
+            _, tail, head, *more = line.split()
+            found.setdefault((tail, head), []).append(more)
+    return found
+
+
+@BOTH
+def test_summaries() -> None:
+    """Tests `differences` on random pairs of graphs, beside a count of the pairs of their canonical texts."""
+    chance = random.Random(SEED)
+    for kind in ["min", "max", "sp"]:
+        graphs: list[tuple[bytes, Known]] = []
+        while len(graphs) < ROUNDS:
+            given = spelled(chance, lines_of(chance, made(chance, kind)))
+            with contextlib.suppress(Fault):
+                graphs.append((given, read(given)))
+        for (one, left), (other, right) in zip(graphs, graphs[1:]):
+            found = dnorm.differences(one, io.BytesIO(other))
+            ours, theirs = by_pair(left), by_pair(right)
+            both = ours.keys() & theirs.keys()
+            different = [it for it in both if ours[it] != theirs[it]]
+            turned = [it for it in ours.keys() - both if it[::-1] not in ours and theirs.get(it[::-1]) == ours[it]]
+            wanted = (len(ours) - len(both), len(theirs) - len(both), len(both), len(different), len(turned))
+            counts = (found.only_left, found.only_right, found.both, found.different, len(found.reversed))
+            assert counts == wanted, f"differences of {one!r} and {other!r}"
+            keys = sorted(tuple(map(int, it)) for it in {*ours, *theirs} if ours.get(it) != theirs.get(it))
+            assert [it.key for it in found.pairs] == keys, "their pairs"
+            assert found.reversed == tuple(sorted(tuple(map(int, it)) for it in turned)), "reversed ones"
+            assert sum(count for _, count in found.fields) == len(different), "their fields"
+            assert str(found.first) == str(dnorm.compare(one, other)), "the first one"
+    assert len(dnorm.differences(ROADS, b"p sp 3 0\n", 2).pairs) == 2, "a limit"
+    found_ = told(lambda: dnorm.differences(ROADS, ROADS, -1))
+    assert found_ == "ValueError: limit is at least 0, and not -1", "no limit"

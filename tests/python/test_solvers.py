@@ -1,0 +1,335 @@
+"""Random instances with parallel arcs before and after they are canonicalised, solved by networkx and scipy through the
+Python package, and by GLPK from files. The optimum must be the same. Each case has a seed of its own."""
+
+import bz2
+import importlib.util
+import io
+import os
+import pickle
+import random
+import re
+import shutil
+from typing import Any
+
+import pytest
+from needs import leave_out, need, pass_over, seeds
+from reading import Text, canonical
+from shared import run, write
+from test_calls import READS, told
+from texts import lines_of
+
+import dnorm
+
+pytestmark = [*READS, pytest.mark.parametrize("reader", ["numpy"], indirect=True)]
+for it in ["networkx", "scipy"]:
+    if not importlib.util.find_spec(it):
+        leave_out(it)
+# The optimum in the report of glpsol.
+OPTIMUM = re.compile(rb"^Objective: .*?(\S+) \(M", re.M)
+networkx: Any = importlib.import_module("networkx")
+csgraph: Any = importlib.import_module("scipy.sparse.csgraph")
+optimize: Any = importlib.import_module("scipy.optimize")
+
+
+@pytest.fixture(params=seeds(12, 0))
+def chance(request: pytest.FixtureRequest, reader: str) -> random.Random:
+    return random.Random(request.param)
+
+
+def grid(chance: random.Random, side: int) -> list[tuple[int, int]]:
+    """Returns the pairs of the arcs of a grid of nodes, in any order. Some arcs are parallel, and some are loops."""
+    pairs = []
+    for at in range(1, side * side + 1):
+        near = [at + 1] * (at % side > 0) + [at + side] * (at + side <= side * side)
+        pairs += [it for other in near for it in [(at, other), (other, at)] * chance.choice([1, 1, 2, 3])]
+        pairs += [(at, at)] * chance.choice([0, 0, 1])
+    chance.shuffle(pairs)
+    return pairs
+
+
+def bytes_of(chance: random.Random, text: Text) -> bytes:
+    """Returns the bytes of a text, spelled as any solver reads it."""
+    return "".join(f"{' '.join(line)}\n" for line in lines_of(chance, text)).encode()
+
+
+def test_shortest(chance: random.Random) -> None:
+    """Compares the distances in an `sp` graph, whose lengths may be below 0 but have no negative cycle."""
+    side = chance.randint(3, 9)
+    height = [chance.randint(-50, 50) for _ in range(side * side + 1)]
+    text = Text("sp", side * side)
+    text.items = [(u, v, chance.randint(0, 20) + (height[u] - height[v])) for u, v in grid(chance, side)]
+    before = networkx.MultiDiGraph()
+    before.add_weighted_edges_from(text.items)
+    found = dnorm.read(bytes_of(chance, text))
+    assert isinstance(found, dnorm.Sp)
+    after, matrix = found.to_networkx(), found.to_scipy()
+    assert sorted(after) == [*range(1, text.nodes + 1)], "nodes"
+    for source in chance.sample(range(1, text.nodes + 1), 3):
+        wanted = dict(networkx.single_source_bellman_ford_path_length(before, source))
+        assert dict(networkx.single_source_bellman_ford_path_length(after, source)) == wanted, "distances"
+        distances = csgraph.bellman_ford(matrix, indices=source - 1).tolist()
+        assert {at + 1: it for at, it in enumerate(distances)} == wanted, "distances by scipy"
+
+
+def by_networkx(found: dnorm.Instance) -> int:
+    """Returns the optimum of a `max` or `min` problem."""
+    assert isinstance(found, (dnorm.Max, dnorm.Min))
+    graph = found.to_networkx()
+    if isinstance(found, dnorm.Max):
+        return int(networkx.maximum_flow_value(graph, graph.graph["source"], graph.graph["sink"]))
+    return int(networkx.network_simplex(graph)[0] + graph.graph["cost"])
+
+
+def by_scipy(found: dnorm.Instance) -> int:
+    """Returns the greatest flow of a `max` problem with small numbers."""
+    assert isinstance(found, dnorm.Max)
+    matrix = found.to_scipy().astype("int32")
+    return int(csgraph.maximum_flow(matrix, found.source - 1, found.sink - 1).flow_value)
+
+
+def test_greatest(chance: random.Random) -> None:
+    """Compares the greatest flow of a `max` problem. Before, each arc has a node of its own in its middle, since
+    networkx takes no parallel arcs there."""
+    side = chance.randint(3, 7)
+    text = Text("max", side * side, terminals={"t": side * side, "s": 1})
+    # glpsol counts a loop at the source as a flow from it.
+    pairs = [it for it in grid(chance, side) if it != (1, 1)]
+    text.items = [(u, v, chance.choice([0, chance.randint(1, 20)])) for u, v in pairs]
+    before = networkx.DiGraph()
+    before.add_nodes_from([1, side * side])
+    for at, (u, v, cap) in enumerate(text.items):
+        before.add_edges_from([(u, -1 - at), (-1 - at, v)], capacity=cap)
+    given = bytes_of(chance, text)
+    after, wanted = dnorm.read(given), networkx.maximum_flow_value(before, 1, side * side)
+    found = [by_networkx(after), by_scipy(after), *optima("--maxflow", given)]
+    assert found == [wanted] * len(found), "greatest flows"
+
+
+def test_cheapest(chance: random.Random) -> None:
+    """Compares the least cost of a `min` problem with lower bounds. A flow within the bounds gives the supplies."""
+    side = chance.randint(2, 6)
+    text = Text("min", side * side)
+    balance = dict.fromkeys(range(1, side * side + 1), 0)
+    for u, v in grid(chance, side):
+        low = chance.choice([0, 0, chance.randint(1, 5)])
+        cap = low + chance.randint(0, 9)
+        text.items.append((u, v, low, cap, chance.randint(-3, 9)))
+        flow = chance.randint(low, cap)
+        balance[u] += flow
+        balance[v] -= flow
+    text.flows = {node: flow for node, flow in balance.items() if flow or chance.random() < 0.3}
+    given = bytes_of(chance, text)
+    wanted = least_cost(text)
+    found = [*(by_networkx(dnorm.read(given, form)) for form in [1, 2]), *optima("--mincost", given)]
+    found += [by_linear_program(dnorm.read(given, form)) for form in [1, 2]]
+    assert found == [wanted] * len(found), "least costs"
+
+
+def by_linear_program(found: dnorm.Instance) -> int:
+    """Returns the least cost of a `min` problem as a linear program."""
+    assert isinstance(found, dnorm.Min)
+    incidence, supplies = found.to_scipy()
+    bounds = list(zip(found.lows.tolist(), found.caps.tolist()))
+    return int(round(optimize.linprog(found.costs, A_eq=incidence, b_eq=supplies, bounds=bounds).fun))
+
+
+def test_networks(chance: random.Random) -> None:
+    for _ in range(20):
+        same_networks(chance)
+
+
+def same_networks(chance: random.Random) -> None:
+    """Compares the texts of graphs of networkx with what they say, and graphs that were read with what they give back.
+    Edges are parallel where networkx lets them, and attributes that have a default are often missing."""
+    graph, nodes = networkx.MultiDiGraph(source=2, sink=1), chance.randint(2, 6)
+    graph.add_nodes_from(range(1, nodes + 1))
+    texts = {dnorm.Sp: Text("sp", nodes), dnorm.Max: Text("max", nodes, terminals={"s": 2, "t": 1})}
+    texts[dnorm.Min] = Text("min", nodes, flows=dict.fromkeys(range(1, nodes + 1), 0))
+    for _ in range(chance.choice([0, 1, 5, 20])):
+        tail, head, low, capacity = (
+            *chance.choices(range(1, nodes + 1), k=2),
+            chance.choice([0, 1]),
+            chance.randint(0, 9),
+        )
+        data = {"capacity": capacity, "weight": chance.randint(0, 5)}
+        graph.add_edge(tail, head, **data, **({"low": low} if low else {}))
+        texts[dnorm.Sp].items.append((tail, head, data["weight"]))
+        texts[dnorm.Max].items.append((tail, head, capacity))
+        texts[dnorm.Min].items.append((tail, head, low, capacity + low, data["weight"]))
+        texts[dnorm.Min].flows[tail] += low
+        texts[dnorm.Min].flows[head] -= low
+    for node in chance.sample(range(1, nodes + 1), 2):
+        graph.nodes[node]["demand"] = chance.randint(-9, 9)
+        texts[dnorm.Min].flows[node] -= graph.nodes[node]["demand"]
+    for kind, text in texts.items():
+        target = io.BytesIO()
+        dnorm.write(dnorm.from_networkx(kind, graph), target)
+        given = target.getvalue()
+        assert dnorm.canon(given) == canonical(text, 1), f"{given!r}, of networkx"
+        found: Any = dnorm.read(given)
+        assert dnorm.from_networkx(kind, found.to_networkx()) == found, f"{given!r}, to networkx and back"
+
+
+def test_unfit() -> None:
+    """Graphs of networkx that are no instance, and instances with parallel arcs."""
+    directed = networkx.DiGraph([(1, 2)])
+    rows: list[tuple[Any, Any, str]] = [
+        (dnorm.Sp, networkx.Graph([(1, 2)]), "ValueError: the graph is undirected: "),
+        (dnorm.Sp, networkx.DiGraph([(0, 1)]), "ValueError: the 2 nodes are not the numbers 1 to 2"),
+        (dnorm.Sp, networkx.DiGraph([("a", "b")]), "ValueError: the 2 nodes are not the numbers 1 to 2"),
+        (dnorm.Sp, networkx.DiGraph([(1, 2, {"weight": 0.5})]), "TypeError: lengths: 'float' object cannot be"),
+        (dnorm.Max, networkx.DiGraph([(1, 2)], source=1, sink=2), "ValueError: the edge from 1 to 2 has no capacity"),
+        (
+            dnorm.Max,
+            networkx.DiGraph([(1, 2, {"capacity": 1})], sink=2),
+            "ValueError: the graph has no attribute source",
+        ),
+        (dnorm.Min, directed, "ValueError: the edge from 1 to 2 has no capacity"),
+        (dnorm.Ss, networkx.DiGraph([(1, 2, {"capacity": 1})]), "TypeError: from_networkx makes Sp, Max and Min"),
+        (dnorm.Sp, networkx.DiGraph([(1, 2, {"length": 5})]), "ValueError: the edge from 1 to 2 has no weight: "),
+        ("min", networkx.DiGraph([(1, 2, {"capacity": 5})]), "ValueError: the edge from 1 to 2 has no weight: "),
+    ]
+    for kind, graph, wanted in rows:
+        found = told(lambda: dnorm.from_networkx(kind, graph))
+        assert found.startswith(wanted), f"{graph.edges(data=True)}: {found}"
+    ends = {"nodes": 2, "tails": [1, 1], "heads": [2, 2]}
+    parallel = dnorm.from_arrays(dnorm.Max, **ends, capacities=[7, 4], source=1, sink=2)
+    lengths = dnorm.from_arrays(dnorm.Sp, **ends, lengths=[7, 4])
+    for call in [parallel.to_networkx, parallel.to_scipy, lengths.to_networkx, lengths.to_scipy]:
+        assert told(call).startswith("ValueError: arcs are parallel: "), "parallel arcs"
+    arc: dict[str, Any] = {"nodes": 2, "tails": [0], "heads": [1]}
+    beyond: list[Any] = [
+        dnorm.from_arrays("sp", **arc, lengths=[1]),
+        dnorm.from_arrays("max", **arc, capacities=[1], source=1, sink=2),
+        dnorm.from_arrays("min", **arc, caps=[1], costs=[1]),
+    ]
+    wanted = "ValueError: tails has a node that is none of 1 to 2: nodes count from 1"
+    for it in beyond:
+        assert [told(it.to_networkx), told(it.to_scipy)] == [wanted] * 2, "arcs from node 0"
+
+
+def test_options() -> None:
+    """The attributes that from_networkx takes, and matrices of scipy."""
+    graph = networkx.DiGraph([(1, 2, {"length": 5, "room": 7}), (2, 3, {"length": 6, "room": 8})])
+    rows: list[tuple[dict[str, Any], list[int]]] = [
+        ({"weight": "length"}, [5, 6]),
+        ({"weight": None}, [1, 1]),
+        ({"weight": lambda tail, head, data: 10 * tail + head + data["length"]}, [17, 29]),
+    ]
+    for words, wanted in rows:
+        found: Any = dnorm.from_networkx("sp", graph, **words)
+        assert found.lengths.tolist() == wanted, f"lengths by {words}"
+    found = dnorm.from_networkx(dnorm.Max, graph, capacity="room", source=1, sink=3)
+    assert (found.source, found.sink, found.capacities.tolist()) == (1, 3, [7, 8]), "a max graph"
+    costs = dnorm.from_networkx(dnorm.Min, graph, capacity="room", weight=None)
+    assert (costs.costs.tolist(), costs.caps.tolist()) == ([0, 0], [7, 8]), "costs"
+    sparse: Any = importlib.import_module("scipy.sparse")
+    entries = ([4, 0, 9], ([0, 1, 2], [2, 0, 2]))
+    for matrix in [sparse.csr_matrix(entries, shape=(3, 3)), sparse.coo_matrix(entries, shape=(3, 3))]:
+        made = dnorm.from_scipy(dnorm.Sp, matrix)
+        assert sorted(made.rows()) == [(1, 3, 4), (2, 1, 0), (3, 3, 9)], "a matrix"
+        assert abs(made.to_scipy() - matrix).sum() == 0, "there and back"
+        flow = dnorm.from_scipy("max", matrix, source=0, sink=2)
+        assert (flow.source, flow.sink, flow.nodes) == (1, 3, 3), "terminals are rows"
+    # Its types take none of these.
+    made_of: Any = dnorm.from_scipy
+    wrong: list[tuple[Any, Any, str]] = [
+        ("sp", sparse.csr_matrix((2, 3), dtype=int), "ValueError: the matrix has 2 rows and 3 columns"),
+        ("sp", sparse.csr_matrix([[0.5]]), "TypeError: lengths: 'numpy.float64' object cannot be interpreted"),
+        ("max", sparse.csr_matrix([[1]]), "TypeError: source and sink are missing"),
+        (dnorm.Min, sparse.csr_matrix([[1]]), "TypeError: from_scipy makes Sp and Max, and not Min"),
+    ]
+    for kind, matrix, begin in wrong:
+        told_ = told(lambda: made_of(kind, matrix))
+        assert told_.startswith(begin), f"{begin}: {told_}"
+
+
+def test_frames() -> None:
+    """Instances as tables of pandas."""
+    if not importlib.util.find_spec("pandas"):
+        leave_out("pandas")
+    found = dnorm.read(b"p min 2 2\na 1 2 0 3 -4\na 1 2 0 5 6\n").to_pandas()
+    wanted = {"tails": [1, 1], "heads": [2, 2], "lows": [0, 0], "caps": [3, 5], "costs": [-4, 6]}
+    assert (found.to_dict("list"), {str(it) for it in found.dtypes}) == (wanted, {"int64"}), "a table"
+
+
+def least_cost(text: Text) -> int:
+    """Returns the least cost of a `min` problem as it stands. The units of a lower bound are an edge of their own,
+    which is so cheap that it is always full."""
+    cheap = 1 + sum(abs(cost) * cap for _, _, _, cap, cost in text.items)
+    graph = networkx.MultiDiGraph()
+    graph.add_nodes_from((node, {"demand": -text.flows.get(node, 0)}) for node in range(1, text.nodes + 1))
+    for u, v, low, cap, cost in text.items:
+        graph.add_edge(u, v, weight=cost - cheap, capacity=low)
+        graph.add_edge(u, v, weight=cost, capacity=cap - low)
+    return int(networkx.network_simplex(graph)[0]) + cheap * sum(it[2] for it in text.items)
+
+
+# Instances of the generators of the First DIMACS Challenge, on which networkx tests itself, with their optima; and the
+# sample problems of GLPK with theirs.
+NETWORKX = f"{os.path.dirname(networkx.__file__)}/algorithms/flow/tests/{{}}.gpickle.bz2"
+PUBLISHED = {
+    NETWORKX.format("gl1"): 156545,
+    NETWORKX.format("gw1"): 1202018,
+    NETWORKX.format("wlm3"): 11875108,
+    NETWORKX.format("netgen-2"): 6749969302,
+    "/usr/share/doc/glpk-utils/examples/sample.max": 29,
+    "/usr/share/doc/glpk-utils/examples/sample.min": 213,
+}
+
+
+@pytest.mark.parametrize("path, optimum", PUBLISHED.items(), ids=map(os.path.basename, PUBLISHED))
+def test_published(path: str, optimum: int) -> None:
+    """Compares the optima of instances that others made. Here each arc of those of networkx is two parallel ones."""
+    if not os.path.exists(path):
+        pass_over(path)
+    with bz2.open(path) if path.endswith(".bz2") else open(path, "rb") as file:
+        chance = random.Random(1)
+        text = bytes_of(chance, split(chance, pickle.load(file))) if path.endswith(".bz2") else file.read()
+    found = dnorm.read(text)
+    optimums = [by_networkx(found), *optima("--mincost" if found.kind == "min" else "--maxflow", text)]
+    if found.kind == "max":
+        optimums.append(by_scipy(found))
+    assert optimums == [optimum] * len(optimums)
+
+
+def test_glpsol() -> None:
+    """glpsol is there, without which the other tests leave it out."""
+    need("glpsol")
+
+
+def split(chance: random.Random, graph: Any) -> Text:
+    """Returns the problem of a graph of networkx, with two parallel arcs for each of its edges."""
+    text = Text("max", len(graph), terminals={"s": 1, "t": len(graph)})
+    flows = {node: -demand for node, demand in graph.nodes(data="demand") if demand is not None}
+    if flows:
+        text = Text("min", len(graph), flows=flows)
+    for tail, head, it in graph.edges(data=True):
+        part = chance.randint(0, it["capacity"])
+        for cap in [part, it["capacity"] - part]:
+            text.items.append((tail, head, 0, cap, it["weight"]) if flows else (tail, head, cap))
+    chance.shuffle(text.items)
+    return text
+
+
+def optima(option: str, given: bytes) -> list[int]:
+    """Returns what glpsol, if it is there, finds for a text and for both of its canonical texts."""
+    if not shutil.which("glpsol"):
+        return []
+    found = []
+    for name, text in {"given": given, "one": dnorm.canon(given), "two": dnorm.canon(given, 2)}.items():
+        write(name, text)
+        run(["glpsol", option, name, "--output", f"{name}.out"])
+        with open(f"{name}.out", "rb") as file:
+            optimum = OPTIMUM.search(file.read())
+        assert optimum
+        found.append(round(float(optimum[1])))
+    return found
+
+
+def test_numpy() -> None:
+    """Columns are numpy's here."""
+    numbers = dnorm.read(b"p sp 1 1\na 1 1 7\n")
+    assert isinstance(numbers, dnorm.Sp)
+    column: Any = numbers.lengths
+    assert (type(column).__name__, column.dtype.name) == ("ndarray", "int64")

@@ -1,0 +1,88 @@
+"""A page of ordinary use of the Python package. `mypy --strict` must accept it, which tools/lint tries; test_instances
+runs it in the folder examples."""
+
+from __future__ import annotations
+
+import importlib.util
+import sys
+from typing import Optional
+
+# This puts the folder of the package on the path.
+import dnorm
+
+
+def cost_of(path: str) -> Optional[int]:
+    """Returns the cost of the arcs of a `min` problem if all are full, and None for another kind."""
+    graph = dnorm.read(path, 2)
+    if graph.kind != "min":
+        return None
+    if 1 in graph.supplies:
+        print("node 1 supplies", graph.supplies[1])
+    return sum(cap * cost for _, _, _, cap, cost in graph.arcs())
+
+
+def longest(path: str) -> int:
+    """Returns the greatest length of an `sp` graph."""
+    graph = dnorm.read(path)
+    if graph.kind == "sp":
+        return int(max(graph.lengths))
+    if isinstance(graph, dnorm.Max):
+        raise ValueError(f"{path} has the source {graph.source}")
+    raise ValueError(f"{path} is {graph.kind}")
+
+
+def first_difference(left: str, right: str) -> str:
+    """Returns where two texts differ."""
+    found = dnorm.compare(left, right)
+    if not found:
+        tail, head = found.pair or (0, 0)
+        return f"{found.what} of {tail} {head}"
+    return str(found)
+
+
+def excess(left: str, right: str) -> str:
+    """Returns by how much the right value of the first difference exceeds the left one."""
+    found = dnorm.compare(left, right)
+    if found:
+        return "none"
+    if found.what == "kind":
+        return f"{found.left.upper()} and {found.right.upper()}"
+    if found.what == "cost":
+        return f"{(found.right or 0) - (found.left or 0)} at {found.amount + 0} from {found.pair[0]}"
+    if found.what == "nodes" or found.what == "supply" or found.what == "capacity":
+        return str(found.right - found.left)
+    return str(found.left or 0)
+
+
+def refusal_of(text: bytes) -> tuple[Optional[int], str]:
+    """Returns the line and the word of the refusal of a text."""
+    try:
+        checked = dnorm.check(text)
+    except dnorm.Refused as error:
+        return error.line, error.word
+    return None, f"{checked.kind} {checked.forms}"
+
+
+def sums(graph: dnorm.Sp) -> tuple[int, int]:
+    """Returns a sum and a count by numpy."""
+    lengths = graph.lengths
+    return int(lengths.sum()), int((lengths > 3).sum())
+
+
+def main() -> int:
+    print(cost_of("flow.min"), cost_of("roads.gr"), longest("roads.gr"))
+    print(first_difference("flow.min", "flow-cheaper.min"), first_difference("flow.min", "flow.min"))
+    print(excess("flow.min", "flow-cheaper.min"), excess("flow.min", "roads.gr"))
+    print(refusal_of(b"p sp 1 1\na 1 2 3\n"), refusal_of(b"p sp 1 0\n"))
+    made = dnorm.from_arrays(dnorm.Sp, nodes=2, tails=[1, 1], heads=[2, 2], lengths=[7, 4])
+    # What was printed before goes first.
+    sys.stdout.flush()
+    dnorm.write(made, sys.stdout.buffer)
+    print(len(made), [length for _, _, length in made.arcs()])
+    if importlib.util.find_spec("numpy"):
+        print(sums(made))
+    return 0
+
+
+if __name__ == "__main__":
+    sys.exit(main())

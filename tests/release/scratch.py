@@ -1,0 +1,197 @@
+"""Scratch repositories that have what a release is made of, and the files of a release."""
+
+import os
+import shutil
+from typing import NamedTuple
+
+from needs import leave_out
+from shared import DEFINITIONS, ROOT, Answer, links_listed, listed, run, source_of, write
+
+OUT = "crates/dnorm/out"
+# What is built for aarch64, which Git does not have.
+BUILT = [f"aarch64/{it}" for it in ["dnorm", "dnorm.o", "dn_c.a", "runtime.o", "heap.o"]]
+BUILT += [f"aarch64/lib/{it}" for it in ["libdnorm.a", "libdnorm.so.2"]]
+# What released/ has, besides its page.
+RELEASED = ["SHA256SUMS", "aarch64/dnorm.gz", "buildinfo"]
+RELEASED += [f"x86_64/{it}" for it in ["dnorm", "libdnorm.a.gz", "libdnorm.so.2.gz"]]
+# What tools/release runs on the program for aarch64.
+FOR_AARCH64 = "tests/program/test_aarch64.py"
+# Scripts that take the places of others in a scratch repository: the first one says whether the files are there, and
+# the second one whether it is called for the program among them.
+SCRIPTS = {
+    "tools/build": "",
+    "tools/c-library": "",
+    "tools/aarch64": f"[ -e {OUT}/aarch64/dnorm ]",
+    "tests/run": f'[ "$*" = "$PWD/{OUT}/aarch64/dnorm -- {FOR_AARCH64}" ] && [ "$CI" = true ]',
+}
+# The files that a release is made with, besides the installed ones.
+WITH = [".gitignore", "kit.txt", "install", "share/installed.txt", "c/runtime-aarch64.c", "c/dnorm.map"]
+WITH += ["tools/release", "tools/shipped", "tools/pages.py", "tools/wheel.py", "tools/kit.py", "tests/shared.py"]
+WITH += ["tools/link-program", "tools/source-sum", "tools/program", "tools/find-program.sh"]
+# The author of the commits and their time; and that time as tar prints it.
+WHO = {"NAME": "A B", "EMAIL": "a@example.org", "DATE": "2026-01-02T03:04:05+00:00"}
+TIME = 1767323045
+# Files whose path in the package differs from that of ./install, or that the package lacks.
+MOVED = {
+    "share/doc/dnorm/CHANGELOG.md": "share/doc/dnorm/changelog.gz",
+    "share/man/man1/canon-in-parts.1": "share/man/man1/canon-in-parts.1.gz",
+    "share/man/man1/dnorm-explain.1": "share/man/man1/dnorm-explain.1.gz",
+    "share/man/man1/dnorm-files.1": "share/man/man1/dnorm-files.1.gz",
+    "share/man/man1/dnorm.1": "share/man/man1/dnorm.1.gz",
+    "share/zsh/site-functions/_canon-in-parts": "share/zsh/vendor-completions/_canon-in-parts",
+    "share/zsh/site-functions/_dnorm-files": "share/zsh/vendor-completions/_dnorm-files",
+    "share/zsh/site-functions/_dnorm": "share/zsh/vendor-completions/_dnorm",
+}
+# What the conformance suite prints for its rule `first`.
+FIRST = "6 cases pass, 0 fail (level canon)\n"
+# The folders of what the packages of the library have.
+OF_LIBRARY = ("include/", "lib/", "share/man/man3/", "share/dnorm/rust/")
+# Files that only the package has.
+ADDED = ["share/doc/dnorm/changelog.Debian.gz", "share/doc/dnorm/copyright", "share/lintian/overrides/dnorm"]
+# The files of the Python package, below python/src/, and what it is built with.
+MODULES = sorted(it.removeprefix("python/src/") for _, it, _ in listed() if it.startswith("python/src/"))
+# The conformance suite, which the wheels have as a module.
+SUITE = {"dnorm/cases.json": "share/conformance/cases.json", "dnorm/conformance.py": "share/conformance/run.py"}
+WITH += ["python/pyproject.toml", "python/README.md"]
+
+
+def all_below(folder: str) -> dict[str, int]:
+    """Returns everything below a folder, with its mode."""
+    found = [f"{at}/{it}" for at, folders, files in os.walk(folder) for it in [*folders, *files]]
+    return {os.path.relpath(it, folder): os.stat(it).st_mode & 0o7777 for it in sorted(found)}
+
+
+def all_listed() -> list[str]:
+    """Returns the paths of what ./install installs."""
+    return [*(it for _, _, it in listed()), *links_listed()]
+
+
+def files_of(paths: dict[str, int]) -> dict[str, int]:
+    """Returns those of these paths that are not folders of another one."""
+    return {it: mode for it, mode in paths.items() if not any(other.startswith(f"{it}/") for other in paths)}
+
+
+class Machine(NamedTuple):
+    """An architecture: its name, Debian's, and those of its processor in readelf and of its platforms in a wheel."""
+
+    name: str
+    debian: str
+    processor: str
+    platforms: list[str]
+
+
+MACHINES = [
+    Machine("x86_64", "amd64", "Advanced Micro Devices X86-64", ["manylinux1_x86_64", "musllinux_1_1_x86_64"]),
+    Machine("aarch64", "arm64", "AArch64", ["manylinux2014_aarch64", "musllinux_1_1_aarch64"]),
+]
+
+
+class Port:
+    """The files of a release for one architecture, and where the archive is unpacked."""
+
+    def __init__(self, machine: Machine, version: str, folder: str) -> None:
+        self.machine, self.name = machine, f"dnorm-{version}-{machine.name}-linux"
+        self.archive = f"{self.name}.tar.gz"
+        self.package = f"dnorm_{version.replace('-', '~')}-1_{machine.debian}.deb"
+        self.shared, self.headers = (self.package.replace("dnorm", it, 1) for it in ["libdnorm2", "libdnorm-dev"])
+        self.wheel = f"dnorm-{version.replace('-dev', '.dev0')}-py3-none-{'.'.join(machine.platforms)}.whl"
+        self.files = [self.archive, self.package, self.shared, self.headers, self.wheel]
+        self.root = f"{folder}/{machine.name}"
+        self.tree = f"{self.root}/{self.name}"
+
+
+class Place:
+    """A scratch repository that contains the built program."""
+
+    def __init__(self, folder: str, tested: str, origin: str = "") -> None:
+        self.folder, self.dist, self.has_commit = folder, f"{folder}/dist", bool(origin)
+        os.makedirs(folder)
+        self.git(*(["clone", "-q", origin, "."] if origin else ["init", "-q"]))
+        files = {f"{ROOT}/{it}": it for it in WITH} | {source_of(it, f"{ROOT}/dnorm"): it for _, it, _ in listed()}
+        for source, place in files.items():
+            if place.startswith(("include/", "lib/")):
+                # Git does not have it.
+                place = f"c/out/{place}"
+            elif origin:
+                continue
+            os.makedirs(os.path.dirname(f"{folder}/{place}"), exist_ok=True)
+            shutil.copy(source, f"{folder}/{place}")
+        if not origin:
+            # The crates are empty here.
+            for name in ["crates.txt", "crates/dnorm/src/main.rt", "crates/dn_c/src/lib.rt"]:
+                os.makedirs(os.path.dirname(f"{folder}/{name}"), exist_ok=True)
+                write(f"{folder}/{name}", "dnorm:\ndn_c staticlib:\n" if name == "crates.txt" else "")
+            # The sources of the page of definitions are not here.
+            for name, body in {**SCRIPTS, "tools/definitions": f"cat '{folder}/{DEFINITIONS}'"}.items():
+                write(f"{folder}/{name}", f"#!/bin/sh\n{body}\n")
+                os.chmod(f"{folder}/{name}", 0o755)
+        for it in [f"{OUT}/rlib", f"{OUT}/aarch64/lib", "crates/dn_c/out/library"]:
+            os.makedirs(f"{folder}/{it}")
+        shutil.copy(tested, f"{folder}/{OUT}/dnorm")
+        for it in [f"{OUT}/rlib/dnorm.o", "crates/dn_c/out/library/dn_c.a", *(f"{OUT}/{name}" for name in BUILT)]:
+            if os.path.exists(f"{ROOT}/{it}"):
+                shutil.copy(f"{ROOT}/{it}", f"{folder}/{it}")
+        for it in [OUT, "c/out"]:
+            write(f"{folder}/{it}/built", "")
+
+    def git(self, *words: str) -> None:
+        who = {f"GIT_{one}_{it}": value for one in ["AUTHOR", "COMMITTER"] for it, value in WHO.items()}
+        alone = {"GIT_CONFIG_GLOBAL": "/dev/null", "GIT_CONFIG_NOSYSTEM": "1"}
+        done = run(["git", *words], cwd=self.folder, env={**os.environ, **who, **alone})
+        if done.status:
+            raise OSError(f"git {words}: {done.err!r}")
+
+    def commit(self, *entries: str, is_next: bool = False) -> None:
+        """Commits a CHANGELOG.md with these entries, as the only commit, or as the next one."""
+        write(f"{self.folder}/CHANGELOG.md", "# Changes\n" + "".join(f"\n## {it}\n\n- A change.\n" for it in entries))
+        self.git("add", "-A")
+        self.git("commit", "-q", "-m", "entries", *(["--amend"] if self.has_commit and not is_next else []))
+        self.has_commit = True
+
+    def release(self, *words: str) -> Answer:
+        return run([f"{self.folder}/tools/release", *words], cwd="/")
+
+
+class Made:
+    """A scratch repository, and the release that it makes."""
+
+    def __init__(self, tested: str, folder: str) -> None:
+        self.tested, self.folder, self.lacks_aarch64 = tested, folder, ""
+        self.version = run([tested, "--version"]).out.decode().split()[1]
+        self.info = f"dnorm-{self.version}.buildinfo"
+        self.wheel = f"dnorm-{self.version.replace('-dev', '.dev0')}-py3-none-any.whl"
+        self.python_package = f"python3-dnorm_{self.version.replace('-', '~')}-1_all.deb"
+        self.ports = [Port(it, self.version, folder) for it in MACHINES]
+        self.tree = self.ports[0].tree
+        self.one = Place(f"{folder}/one", tested)
+
+    def files(self) -> list[str]:
+        """Returns the names of all files but SHA256SUMS, sorted."""
+        own = [self.info, self.wheel, self.python_package, f"dnorm-{self.version}-objects.tar.gz"]
+        return sorted([*own, *(it for port in self.ports for it in port.files)])
+
+    def release(self, place: Place) -> Answer:
+        """Makes a release in the folder `dist`. Without aarch64 it can only be a trial."""
+        return place.release() if len(self.ports) > 1 else place.release("--trial", place.dist)
+
+    def try_release(self) -> None:
+        """Makes a trial release. If only the files for aarch64 cannot be made, they are left out."""
+        to = f"{self.folder}/trial"
+        self.one.commit("Unreleased", self.version)
+        found = self.one.release("--trial", to)
+        line = found.err.decode(errors="replace").strip()
+        if found.status and line.startswith("release: there is no"):
+            leave_out(tool_of(line))
+        if found.status and line.startswith("release: crates/dnorm/out has no object"):
+            leave_out("the object of the built program (tools/build makes it)")
+        if line.startswith("release: aarch64 is left out: "):
+            self.lacks_aarch64 = line.removeprefix("release: aarch64 is left out: ")
+            self.ports.pop()
+            found = found._replace(err=b"")
+        assert (found.err, found.status) == (b"", 0), "a trial"
+        assert sorted(os.listdir(to)) == sorted([*self.files(), "SHA256SUMS"]), "files of a trial"
+
+
+def tool_of(line: str) -> str:
+    """Returns the tool that a line of tools/release says is missing."""
+    return line.removeprefix("release: ").removeprefix("there is no ").removesuffix(" on the path")

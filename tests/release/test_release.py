@@ -1,0 +1,648 @@
+"""tools/release on the built program, and ./install: the archive's program in an empty root, its conformance suite, two
+releases of one commit in two folders, the packages' paths and fields, the links of all pages, programs that are built
+with the library of the archive, of ./install and of the packages, what is installed and uninstalled, also after a
+failure and without /proc, and when no release is made. All of this happens in scratch repositories, which have the
+files that a release is made of.
+
+Of what is made for aarch64, the paths, the fields and the processor of the files are tested, and nothing is proved or
+run: the scratch repositories have what tools/aarch64 has built, and scripts in the place of tools/aarch64 and
+tests/run. The tests run in one process, in this order, since they share the releases."""
+
+import base64
+import glob
+import gzip
+import hashlib
+import os
+import re
+import shutil
+import sys
+import tarfile
+import time
+import zipfile
+
+import pytest
+from builds import by_cmake
+from known import CANONICAL, ROADS, ROADS_CANON, rows
+from needs import leave_out, need, pass_over
+from scratch import (
+    FOR_AARCH64,
+    ADDED,
+    FIRST,
+    MACHINES,
+    MODULES,
+    MOVED,
+    OF_LIBRARY,
+    OUT,
+    RELEASED,
+    SCRIPTS,
+    SUITE,
+    TIME,
+    WHO,
+    Made,
+    Place,
+    Port,
+    all_below,
+    all_listed,
+    files_of,
+    tool_of,
+)
+from shared import ROOT, Answer, bytes_of, links_listed, listed, python_with, run, said, text_of, write
+
+pytestmark = [pytest.mark.whole, pytest.mark.xdist_group("release")]
+
+
+@pytest.fixture(scope="module")
+def scratch(tested: str, tmp_path_factory: pytest.TempPathFactory) -> Made:
+    need("git")
+    if not os.path.exists(f"{ROOT}/c/out/lib/libdnorm.a"):
+        leave_out("the library (tools/c-library builds it)")
+    return Made(tested, f"{tmp_path_factory.mktemp('release')}/it")
+
+
+@pytest.fixture(scope="module")
+def made(scratch: Made) -> Made:
+    """A scratch repository that can make a release."""
+    scratch.try_release()
+    return scratch
+
+
+def test_aarch64(made: Made) -> None:
+    """The files for aarch64 can be made, without which the other tests leave them out."""
+    if made.lacks_aarch64.startswith("there is no "):
+        leave_out(tool_of(made.lacks_aarch64))
+    if made.lacks_aarch64.startswith(f"{OUT}/aarch64 is not up to date"):
+        pass_over(f"{OUT}/aarch64 (tools/aarch64 builds it)")
+    assert not made.lacks_aarch64
+
+
+def test_refusals(made: Made) -> None:
+    """When no release is made."""
+    one, version = made.one, made.version
+    wants = f"release: the first entry of CHANGELOG.md is 'Unreleased', and the program is {version}\n"
+    assert one.release() == said("", wants, 1), "no entry"
+    one.commit()
+    wants = f"release: the first entry of CHANGELOG.md is '', and the program is {version}\n"
+    assert one.release() == said("", wants, 1), "no entries"
+    one.commit(version, "0.9.0")
+    for name in ["more", "README.md"]:
+        kept = bytes_of(f"{ROOT}/{name}") if name == "README.md" else b""
+        write(f"{one.folder}/{name}", "changed")
+        wants = "release: the tree has changes that are not committed\n"
+        assert one.release() == said("", wants, 1), f"a changed {name}"
+        write(f"{one.folder}/{name}", kept)
+    os.remove(f"{one.folder}/more")
+    for words in [["x"], ["--trial"], ["--trial", ""], ["--trial", "x", "y"]]:
+        assert one.release(*words) == said("", "usage: tools/release [--trial FOLDER]\n", 3), f"{words}"
+    if len(made.ports) > 1:
+        os.rename(f"{one.folder}/{OUT}/aarch64", f"{one.folder}/{OUT}/away")
+        wants = "release: the program for aarch64 could not be built\n"
+        assert one.release() == said("", wants, 1), "nothing for aarch64"
+        os.rename(f"{one.folder}/{OUT}/away", f"{one.folder}/{OUT}/aarch64")
+        write(f"{one.folder}/tests/run", "#!/bin/sh\necho '0 passed, 1 failed'\nexit 1\n")
+        one.commit(version, "0.9.0")
+        wants = f"0 passed, 1 failed\nrelease: the program for aarch64 does not pass {FOR_AARCH64}\n"
+        assert one.release() == said("", wants, 1), "a test for aarch64 that fails"
+        write(f"{one.folder}/tests/run", f"#!/bin/sh\n{SCRIPTS['tests/run']}\n")
+        one.commit(version, "0.9.0")
+    assert not os.path.exists(one.dist), "nothing is made"
+
+
+def test_versions(made: Made) -> None:
+    """A version without a dash names one state of the files, to which released/ may be added."""
+    one, program = made.one, f"{made.one.folder}/{OUT}/dnorm"
+    kept = bytes_of(program)
+    write(program, "#!/bin/sh\necho dnorm 9.0.1\n")
+    one.commit("9.0.10", "9.0.1-dev")
+    one.commit("9.0.1", "0.9.0", is_next=True)
+    first = run(["git", "rev-parse", "--short", "HEAD"], cwd=one.folder).out.decode().strip()
+    goes_on = "release: crates/dnorm/out has no object that gives the built program: tools/build makes it\n"
+    assert one.release() == said("", goes_on, 1), "a new version"
+    os.makedirs(f"{one.folder}/released", exist_ok=True)
+    write(f"{one.folder}/released/new", "")
+    one.commit("9.0.1", "0.9.0", is_next=True)
+    assert one.release() == said("", goes_on, 1), "released/ added to it"
+    one.commit("9.0.1", "0.9.0", "0.8.0", is_next=True)
+    wants = f"release: commit {first} has the version 9.0.1, too, and other files: take another version\n"
+    assert one.release() == said("", wants, 1), "a version given before"
+    os.remove(f"{one.folder}/released/new")
+    write(program, kept)
+    one.commit(made.version, "0.9.0")
+
+
+@pytest.fixture(scope="module")
+def two(made: Made) -> Place:
+    """Another repository of the same commit. In both a release is made."""
+    made.one.commit(made.version, "0.9.0")
+    two = Place(f"{made.folder}/another folder/of it", made.tested, made.one.folder)
+    for place in [made.one, two]:
+        found = made.release(place)
+        told = found.err if len(made.ports) > 1 else b""
+        assert (told, found.status) == (b"", 0), f"a release in {place.folder}"
+        assert sorted(os.listdir(place.dist)) == sorted([*made.files(), "SHA256SUMS"]), "its files"
+    for port in made.ports:
+        with tarfile.open(f"{made.one.dist}/{port.archive}") as tar:
+            tar.extractall(port.root)
+    return two
+
+
+@pytest.fixture(params=range(len(MACHINES)), ids=[it.name for it in MACHINES])
+def port(request: pytest.FixtureRequest, made: Made, two: Place) -> Port:
+    """The files of the release for an architecture."""
+    number: int = request.param
+    if len(made.ports) <= number:
+        pass_over(made.lacks_aarch64)
+    return made.ports[number]
+
+
+def test_equal_bytes(made: Made, two: Place) -> None:
+    """Two releases of one commit, in folders of different names, have the same bytes."""
+    for name in [*made.files(), "SHA256SUMS"]:
+        same = bytes_of(f"{made.one.dist}/{name}") == bytes_of(f"{two.dist}/{name}")
+        assert same, f"{name} of two releases has the same bytes"
+    sums = run(["sha256sum", "--strict", "-c", "SHA256SUMS"], cwd=two.dist)
+    assert sums == said("".join(f"{it}: OK\n" for it in made.files())), "SHA256SUMS"
+    told = text_of(f"{two.dist}/{made.info}")
+    head = run(["git", "rev-parse", "HEAD"], cwd=two.folder).out.decode().strip()
+    lines = [f"version: {made.version}", f"commit: {head}", f"time: {TIME}", f"kit: {kit_line()}"]
+    lines += [f"linked for {it.machine.name}:" for it in made.ports]
+    for line in lines:
+        assert line in told.splitlines(), f"{made.info} has: {line}"
+    named = {it: two.dist for it in made.files() if it != made.info}
+    if len(made.ports) > 1:
+        named |= {it: f"{two.folder}/{OUT}/aarch64" for it in ["dnorm.o", "dn_c.a", "runtime.o", "heap.o"]}
+        named["runtime-aarch64.c"] = f"{two.folder}/c"
+    for name, folder in named.items():
+        line = run(["sha256sum", name], cwd=folder).out.decode()
+        assert line in told, f"{made.info} has the sum of {name}"
+
+
+def test_released(made: Made, two: Place) -> None:
+    """In released/ both releases wrote the same, of the archives' files, and another release with it changes
+    nothing."""
+    if made.lacks_aarch64:
+        pass_over(made.lacks_aarch64)
+    found = [{it: bytes_of(f"{place.folder}/released/{it}") for it in RELEASED} for place in [made.one, two]]
+    assert found[0] == found[1], "released/ of two releases has the same bytes"
+    assert sorted(files_of(all_below(f"{two.folder}/released"))) == sorted(RELEASED), "released/"
+    sums = run(["sha256sum", "--strict", "-c", "SHA256SUMS"], cwd=f"{two.folder}/released")
+    assert (sums.err, sums.status) == (b"", 0), "SHA256SUMS of released/"
+    with tarfile.open(f"{two.dist}/{made.ports[1].archive}") as tar:
+        file = tar.extractfile(f"{made.ports[1].name}/dnorm")
+        program = file.read() if file else b""
+    assert gzip.decompress(found[0]["aarch64/dnorm.gz"]) == program, "the released program for aarch64"
+    lines = found[0]["buildinfo"].decode().splitlines()
+    wanted = [f"version: {made.version}", f"kit: {kit_line()}"]
+    for it in ["program", "library"]:
+        wanted.append(f"sources of the {it}: {run([f'{two.folder}/tools/source-sum', it]).out.decode().strip()}")
+    for line in wanted:
+        assert line in lines, f"released/buildinfo has: {line}"
+    two.git("add", "-A")
+    two.git("commit", "-q", "-m", "released")
+    assert made.release(two).status == 0, "another release"
+    changes = run(["git", "status", "--porcelain"], cwd=two.folder)
+    assert changes == said(), "what another release changes"
+
+
+def kit_line() -> str:
+    return run(["rt", "version"]).out.decode().strip()
+
+
+def test_archive(made: Made, port: Port) -> None:
+    """The archive of an architecture: its files, their owners and times, and that it contains no path of the place
+    where it was made."""
+    with tarfile.open(f"{made.one.dist}/{port.archive}") as tar:
+        members = tar.getmembers()
+    names = [it.name for it in members]
+    assert names == sorted(names, key=lambda it: it.split("/")), "the archive's order"
+    assert {(it.uid, it.gid, it.uname, it.gname, int(it.mtime)) for it in members} == {(0, 0, "", "", TIME)}
+    wanted = archived()
+    found_links = {it: os.readlink(f"{port.tree}/{it}") for it in wanted if os.path.islink(f"{port.tree}/{it}")}
+    assert found_links == links_listed()
+    assert files_of(all_below(port.tree)) == wanted
+    assert {it.mode for it in members if it.isdir()} == {0o755}, "its folders' modes"
+    for name in ["dnorm", "lib/libdnorm.a", "lib/libdnorm.so.2"]:
+        linked = bytes_of(f"{port.tree}/{name}")
+        for it in [made.folder, ROOT, os.path.dirname(os.path.dirname(os.path.realpath(shutil.which("rt") or "")))]:
+            assert it.encode() not in linked, f"{it} is in {name}"
+        told = run(["readelf", "-hW", f"{port.tree}/{name}"]).out.decode()
+        assert set(re.findall(r"^ *Machine: +(.*)$", told, re.M)) == {port.machine.processor}, name
+    told = run(["readelf", "-lW", f"{port.tree}/dnorm"]).out.decode()
+    assert "LOAD" in told and "INTERP" not in told, "the program is static"
+
+
+def archived() -> dict[str, int]:
+    """Returns the files that the archive is to have, with their modes."""
+    wanted = {place: mode for mode, place, _ in listed()} | {"install": 0o755, "share/installed.txt": 0o644}
+    return wanted | dict.fromkeys(links_listed(), 0o644)
+
+
+def test_runs_of_archive(made: Made, two: Place) -> None:
+    """What the archive for this machine has runs, and leaves nothing behind."""
+    uses_library(made, made.tree)
+    words = [f"{made.tree}/share/conformance/run.py", "--rule", "first", f"{made.tree}/dnorm"]
+    assert run(words) == said(FIRST)
+    parts(made, f"{made.tree}/scale/canon-in-parts")
+    assert files_of(all_below(made.tree)) == archived()
+    modules = [place.removeprefix("python/src/") for _, place, _ in listed() if place.startswith("python/src/")]
+    assert modules == MODULES
+    links(made, made.tree)
+
+
+def uses_library(made: Made, prefix: str, root: str = "") -> None:
+    """Tests a program that is built with the library below a prefix, as pkg-config finds it; below a root, the file for
+    pkg-config names it by its path in this root."""
+    need("c++", "pkg-config")
+    found = [it for it, _, names in os.walk(prefix) if "dnorm.pc" in names]
+    own = {**os.environ, "PKG_CONFIG_LIBDIR": ":".join(found), "PKG_CONFIG_SYSROOT_DIR": root}
+    own |= {"PKG_CONFIG_ALLOW_SYSTEM_CFLAGS": "1", "PKG_CONFIG_ALLOW_SYSTEM_LIBS": "1"}
+    told = run(["pkg-config", "--cflags", "--libs", "dnorm"], env=own)
+    assert (told.err, told.status) == (b"", 0), f"pkg-config below {prefix}"
+    words = [
+        "c++",
+        "-std=c++17",
+        "-o",
+        f"{made.folder}/uses",
+        f"{ROOT}/tests/library/library.cc",
+        *told.out.decode().split(),
+    ]
+    assert run(words) == said(), f"{words}"
+    text, *forms = CANONICAL[0]
+    environment = {**os.environ, "LD_LIBRARY_PATH": os.path.dirname(found[0])}
+    assert run([f"{made.folder}/uses"], text, env=environment) == said(b"".join(forms)), f"its run, {prefix}"
+
+
+def links(made: Made, folder: str) -> None:
+    """Each link in the pages below a folder leads to a file there, and that links to sources name them."""
+    found = run([sys.executable, f"{ROOT}/tools/pages.py", folder])
+    assert found == said(), "pages with links that lead nowhere"
+    head = run(["git", "rev-parse", "HEAD"], cwd=made.one.folder).out.decode()[:12]
+    for source in ["crates/dn_num/specs/Number.antt", "crates/dn_arc/specs/Meanings.antt"]:
+        named = f"(`{head}:{source}`)" in text_of(f"{folder}/docs/PROVED.md")
+        assert named, f"{folder}/docs/PROVED.md names {head}:{source}"
+
+
+def test_in_empty_root(made: Made, two: Place) -> None:
+    """The archive's program in a root that has nothing else: the tables of known.py, and the help."""
+    if os.geteuid() or run(["chroot", "/", "true"]).status:
+        pass_over("the right to call chroot (root has it)")
+    for number, (words, named, out, err, status) in enumerate(rows()):
+        os.mkdir(f"{made.ports[0].root}/{number}")
+        for name in named.keys() - {"-"}:
+            write(f"{made.ports[0].root}/{number}/{name}", named[name])
+        found = by_root(made, number, words.split(), named.get("-", b""))
+        assert found == Answer(out, err, status), f"{words} of {named}, in an empty root"
+    for words in ["help", "help canon", "--version", "check --help"]:
+        assert by_root(made, 0, words.split(), b"") == run([made.tested, *words.split()]), words
+
+
+def by_root(made: Made, number: int, words: list[str], given: bytes) -> Answer:
+    """Runs the archive's program in a folder of its root."""
+
+    def enter() -> None:
+        os.chroot(made.ports[0].root)
+        os.chdir(f"/{number}")
+
+    return run([f"/{made.ports[0].name}/dnorm", *words], given, preexec_fn=enter)
+
+
+def test_python_wheel(made: Made, two: Place) -> None:
+    """The wheel: its files, their modes and times, and a run of it as it is."""
+    path = f"{made.one.dist}/{made.wheel}"
+    with zipfile.ZipFile(path) as wheel:
+        infos = wheel.infolist()
+        metadata = wheel.read(f"{made.wheel.removesuffix('-py3-none-any.whl')}.dist-info/METADATA").decode()
+    names = [it.filename for it in infos]
+    modules = sorted([*MODULES, *SUITE])
+    assert sorted(it for it in names if it.startswith("dnorm/")) == modules, "the wheel's modules"
+    assert {it.external_attr >> 16 & 0o777 for it in infos if it.filename in modules} == {0o644}, "its modes"
+    assert {it.date_time for it in infos} == {time.gmtime(TIME - 1)[:6]}, "its times"
+    assert "Requires-Dist" not in metadata, f"it needs only Python: {metadata}"
+    for it in [made.folder, ROOT]:
+        assert it.encode() not in bytes_of(path), f"{it} is not in the wheel"
+    with zipfile.ZipFile(path) as wheel:
+        for name, place in SUITE.items():
+            assert wheel.read(name) == bytes_of(f"{made.tree}/{place}"), f"{name} is {place}"
+    runs_module(made, path, made.tested)
+
+
+def test_python_binary(made: Made, port: Port) -> None:
+    """The wheel with the program of an architecture: that it has the files of the other wheel, the archive's
+    program and library, and that its RECORD lists them."""
+    with zipfile.ZipFile(f"{made.one.dist}/{made.wheel}") as wheel:
+        wanted = {it: wheel.read(it) for it in wheel.namelist()}
+    with zipfile.ZipFile(f"{made.one.dist}/{port.wheel}") as wheel:
+        infos = wheel.infolist()
+        found = {it.filename: wheel.read(it) for it in infos}
+    stem = made.wheel.removesuffix("-py3-none-any.whl")
+    script, info = f"{stem}.data/scripts/dnorm", f"{stem}.dist-info"
+    assert found.pop(script) == bytes_of(f"{port.tree}/dnorm"), "its program"
+    same = found.pop("dnorm/libdnorm.so.2") == bytes_of(f"{port.tree}/lib/libdnorm.so.2")
+    assert same, "its library"
+    modes = {it.filename: it.external_attr >> 16 for it in infos}
+    assert {script: modes.pop(script)} | dict.fromkeys(modes.values(), "") == {
+        script: 0o100755,
+        0o100644: "",
+    }, "its modes"
+    assert {it.date_time for it in infos} == {time.gmtime(TIME - 1)[:6]}, "its times"
+    tags = re.findall("^Tag: (.*)$", found[f"{info}/WHEEL"].decode(), re.M)
+    assert sorted(tags) == [f"py3-none-{it}" for it in port.machine.platforms], "its tags"
+    is_bound = "Root-Is-Purelib: false\n" in found.pop(f"{info}/WHEEL").decode()
+    assert is_bound and wanted.pop(f"{info}/WHEEL"), "it is for one platform"
+    rows = [it.rsplit(",", 2) for it in found.pop(f"{info}/RECORD").decode().splitlines()]
+    assert sorted(it for it, _, _ in rows) == sorted([it.filename for it in infos]), "the names in RECORD"
+    sums = {name: digest for name, digest, _ in rows if digest}
+    found_sums = {
+        name: f"sha256={base64.urlsafe_b64encode(hashlib.sha256(data).digest()).decode().rstrip('=')}"
+        for name, data in found.items()
+    }
+    assert {it: sums.get(it) for it in found} == found_sums, "the sums in RECORD"
+    del wanted[f"{info}/RECORD"]
+    assert found == wanted, "its other files"
+
+
+def test_by_pip(made: Made, two: Place) -> None:
+    """What pip installs from the wheels into environments that are not activated, and uninstalls: from one wheel
+    the program and the library come, too; the other one finds a program by $DNORM."""
+    python = python_with("pip", "venv")
+    if not python:
+        leave_out("pip")
+        return
+    write(f"{made.folder}/roads.gr", ROADS)
+    for wheel, has_program in [(made.ports[0].wheel, True), (made.wheel, False)]:
+        place = f"{made.folder}/environment{has_program}"
+        assert run([python, "-m", "venv", "--without-pip", place]) == said(), "an environment"
+        pip = [python, "-m", "pip", "--python", f"{place}/bin/python", "--disable-pip-version-check"]
+        before = all_below(f"{place}/bin")
+        found = run([*pip, "install", "--quiet", "--no-index", "--no-deps", f"{made.one.dist}/{wheel}"])
+        assert (found.out, found.status) == (b"", 0), f"pip install {wheel}"
+        commands = ["dnorm", "dnorm-files"] if has_program else ["dnorm-files"]
+        assert sorted(all_below(f"{place}/bin").keys() - before) == commands, "its commands"
+        own = {"PATH": "/none"} | ({} if has_program else {"DNORM": made.tested})
+        code = "import dnorm; print(dnorm.version(), dnorm.find_program(), dnorm.find_library() or '')"
+        program = f"{place}/bin/dnorm" if has_program else made.tested
+        library = next(iter(glob.glob(f"{place}/lib/python*/site-packages/dnorm/libdnorm.so.2")), "")
+        assert bool(library) == has_program, f"the library of {wheel}: {library}"
+        ran = run([f"{place}/bin/python", "-c", code], env=own)
+        assert ran == said(f"{made.version} {program} {library}\n"), "the program and the library"
+        for command in [[f"{place}/bin/dnorm-files"], [f"{place}/bin/python", "-m", "dnorm"]]:
+            found = run([*command, "check", "roads.gr"], cwd=made.folder, env=own)
+            assert found == said("roads.gr: accepted sp\n", "1 accepted, 0 refused, 0 failed\n"), f"{command}"
+        found = run([*pip, "uninstall", "--quiet", "--yes", "dnorm"])
+        assert (found.status, all_below(f"{place}/bin")) == (0, before), "pip uninstall"
+
+
+def runs_module(made: Made, where: str, tested: str) -> None:
+    """A run of the Python package in this folder or wheel."""
+    write(f"{made.folder}/roads.gr", ROADS)
+    environment = {**os.environ, "PYTHONPATH": where, "DNORM": tested, "PYTHONDONTWRITEBYTECODE": "1"}
+    found = run([sys.executable, "-m", "dnorm", "check", "roads.gr"], cwd=made.folder, env=environment)
+    assert found == said("roads.gr: accepted sp\n", "1 accepted, 0 refused, 0 failed\n"), f"check by {where}"
+    words = [sys.executable, "-m", "dnorm", "conformance", "--rule", "first", tested]
+    found = run(words, cwd=made.folder, env=environment)
+    assert found == said(FIRST), f"conformance by {where}"
+
+
+def test_python_package(made: Made, two: Place) -> None:
+    """The package of the Python package: its paths, its fields, and that it has the wheel's files."""
+    path, to, control = (
+        f"{made.one.dist}/{made.python_package}",
+        f"{made.folder}/python",
+        f"{made.folder}/python-control",
+    )
+    assert run(["dpkg-deb", "-x", path, to]) == said(), "dpkg-deb -x"
+    assert run(["dpkg-deb", "-e", path, control]) == said(), "dpkg-deb -e"
+    modules = f"{to}/usr/lib/python3/dist-packages"
+    with zipfile.ZipFile(f"{made.one.dist}/{made.wheel}") as wheel:
+        texts = {it: wheel.read(it) for it in wheel.namelist() if not it.endswith("/RECORD")}
+    info = next(os.path.dirname(it) for it in texts if it.endswith("/METADATA"))
+    texts[f"{info}/INSTALLER"] = b"dpkg\n"
+    wanted = {f"usr/lib/python3/dist-packages/{it}" for it in texts}
+    wanted |= {"usr/share/lintian/overrides/python3-dnorm", "usr/share/doc/python3-dnorm"}
+    found = {os.path.relpath(f"{at}/{it}", to) for at, _, names in os.walk(to) for it in names}
+    assert found == wanted, "the files of python3-dnorm"
+    assert {it: bytes_of(f"{modules}/{it}") for it in texts} == texts, "its modules"
+    assert os.readlink(f"{to}/usr/share/doc/python3-dnorm") == "dnorm", "its documents"
+    version = f"{made.version.replace('-', '~')}-1"
+    fields = {"Package": "python3-dnorm", "Version": version, "Architecture": "all", "Source": "dnorm"}
+    fields |= {"Depends": f"dnorm (= {version}), python3 (>= 3.9)", "Recommends": f"libdnorm2 (= {version})"}
+    for name, value in fields.items():
+        assert run(["dpkg-deb", "-f", path, name]) == said(f"{value}\n"), f"its {name}"
+    assert run(["md5sum", "--quiet", "--strict", "-c", f"{control}/md5sums"], cwd=to) == said(), "md5sums"
+    scripts = {it: os.stat(f"{control}/{it}").st_mode & 0o777 for it in ["postinst", "prerm"]}
+    assert scripts == dict.fromkeys(scripts, 0o755), "its scripts"
+    packaged = f"{unpacked(made, made.ports[0])}/usr/bin/dnorm"
+    runs_module(made, modules, packaged)
+    # The package of the program has the command.
+    ran = run([f"{packaged}-files", "check", "roads.gr"], cwd=made.folder, env={"PATH": os.environ["PATH"]})
+    assert ran == said("roads.gr: accepted sp\n", "1 accepted, 0 refused, 0 failed\n"), "dnorm-files"
+
+
+def unpacked(made: Made, port: Port) -> str:
+    """Unpacks the package of an architecture into a folder, if that was not done before, and returns the folder."""
+    to = f"{made.folder}/package-{port.machine.name}"
+    if not os.path.exists(to):
+        assert run(["dpkg-deb", "-x", f"{made.one.dist}/{port.package}", to]) == said()
+    return to
+
+
+def test_shared_files(made: Made, two: Place) -> None:
+    """The packages of all architectures have the same files but for the program, and the one for this machine runs."""
+    told = []
+    for port in made.ports:
+        control = f"{made.folder}/sums-{port.package}"
+        assert run(["dpkg-deb", "-e", f"{made.one.dist}/{port.package}", control]) == said()
+        told.append({*text_of(f"{control}/md5sums").splitlines()})
+    own = {it.split()[1] for one in told for it in one ^ told[0]}
+    assert own == ({"usr/bin/dnorm", "usr/share/lintian/overrides/dnorm"} if len(told) > 1 else set())
+    to = unpacked(made, made.ports[0])
+    parts(made, f"{to}/usr/bin/canon-in-parts")
+    links(made, f"{to}/usr/share/doc/dnorm")
+
+
+def test_package(made: Made, port: Port) -> None:
+    """The package of an architecture: its paths, its fields, and the owners of its files."""
+    path, to = f"{made.one.dist}/{port.package}", unpacked(made, port)
+    wanted = {f"usr/{MOVED.get(it, it)}": mode for mode, _, it in listed() if not it.startswith(OF_LIBRARY)}
+    wanted |= {f"usr/{it}": 0o644 for it in ADDED}
+    assert files_of(all_below(to)) == wanted, "the package's files"
+    same = bytes_of(f"{to}/usr/bin/dnorm") == bytes_of(f"{port.tree}/dnorm")
+    assert same, "the package has the archive's program"
+    lines = run(["dpkg-deb", "-c", path]).out.decode().splitlines()
+    assert {it.split()[1] for it in lines} == {"root/root"}, "its owners"
+    fields = {
+        "Package": "dnorm",
+        "Version": f"{made.version.replace('-', '~')}-1",
+        "Architecture": port.machine.debian,
+        "Maintainer": f"{WHO['NAME']} <{WHO['EMAIL']}>",
+        "Suggests": "python3 (>= 3.9), parallel, libdnorm-dev",
+    }
+    for name, value in fields.items():
+        assert run(["dpkg-deb", "-f", path, name]) == said(f"{value}\n"), f"its {name}"
+    told = run(["dpkg-deb", "-f", path]).out.decode()
+    assert "Depends" not in told, f"it depends on nothing: {told}"
+    control = f"{made.folder}/control-{port.package}"
+    assert run(["dpkg-deb", "-e", path, control]) == said(), "dpkg-deb -e"
+    assert run(["md5sum", "--quiet", "--strict", "-c", f"{control}/md5sums"], cwd=to) == said(), "md5sums"
+
+
+def library_below(made: Made, port: Port) -> str:
+    """Unpacks both packages of the library into one root, if that was not done before, and returns the root."""
+    to = f"{made.folder}/library-{port.machine.name}"
+    for it in [] if os.path.exists(to) else [port.shared, port.headers]:
+        assert run(["dpkg-deb", "-x", f"{made.one.dist}/{it}", to]) == said(), it
+    return to
+
+
+def test_library_packages(made: Made, two: Place) -> None:
+    """Programs are built with the packages of the library for this machine, by pkg-config and by CMake."""
+    to = library_below(made, made.ports[0])
+    uses_library(made, f"{to}/usr", to)
+    by_cmake(f"{made.folder}/by cmake", f"{to}/usr")
+
+
+def test_packages_of_library(made: Made, port: Port) -> None:
+    """The packages of the library for an architecture: their paths and fields."""
+    to, version = library_below(made, port), f"{made.version.replace('-', '~')}-1"
+    folder = f"lib/{port.machine.name}-linux-gnu"
+    places = [it.replace("lib/", f"{folder}/", 1) for _, _, it in listed() if it.startswith(OF_LIBRARY)]
+    wanted = {f"usr/{it}{'.gz' * ('/man3/' in it)}": 0o644 for it in [*places, f"{folder}/libdnorm.so"]}
+    own_documents = ["LIBRARY.md", *(f"examples/{it}" for it in os.listdir(f"{ROOT}/c/examples"))]
+    wanted |= {f"usr/share/doc/libdnorm-dev/{it}": 0o644 for it in own_documents}
+    for it in ["libdnorm2", "libdnorm-dev"]:
+        added = [f"doc/{it}/{name}" for name in ["changelog.Debian.gz", "changelog.gz", "copyright", "THIRD-PARTY"]]
+        added.append(f"lintian/overrides/{it}")
+        wanted |= {f"usr/share/{name}": 0o644 for name in added}
+    least = least_libc(f"{port.tree}/lib/libdnorm.so.2")
+    fields = {
+        port.shared: {"Package": "libdnorm2", "Depends": f"libc6 (>= {least})", "Section": "libs"},
+        port.headers: {"Package": "libdnorm-dev", "Depends": f"libdnorm2 (= {version})", "Section": "libdevel"},
+    }
+    common = {"Version": version, "Source": "dnorm", "Multi-Arch": "same", "Architecture": port.machine.debian}
+    for name, own in fields.items():
+        path, control = f"{made.one.dist}/{name}", f"{made.folder}/control-{name}"
+        assert run(["dpkg-deb", "-e", path, control]) == said(), f"dpkg-deb -e {name}"
+        sums = run(["md5sum", "--quiet", "--strict", "-c", f"{control}/md5sums"], cwd=to)
+        assert sums == said(), f"md5sums of {name}"
+        for field, value in {**own, **common}.items():
+            assert run(["dpkg-deb", "-f", path, field]) == said(f"{value}\n"), f"{field} of {name}"
+    names = {
+        "shlibs": f"libdnorm 2 libdnorm2 (>= {version.removesuffix('-1')})\n",
+        "triggers": "activate-noawait ldconfig\n",
+    }
+    found_names = {it: text_of(f"{made.folder}/control-{port.shared}/{it}") for it in names}
+    assert found_names == names, "control files of libdnorm2"
+    found = {os.path.relpath(f"{at}/{it}", to) for at, _, files in os.walk(to, followlinks=True) for it in files}
+    assert found == set(wanted), "the files of both packages"
+    page = text_of(f"{to}/usr/share/doc/libdnorm-dev/LIBRARY.md")
+    local = [it for it in re.findall(r"\]\(([^#)][^)]*)\)", page) if "://" not in it]
+    assert sorted(local) == sorted(own_documents[1:]), "links of the page on the library"
+    is_whole = page.startswith("# The library for C, C++ and Rust\n") and "## What a caller" in page
+    assert is_whole, "the page on the library is whole"
+    for name in ["libdnorm.a", "libdnorm.so.2"]:
+        same = bytes_of(f"{to}/usr/{folder}/{name}") == bytes_of(f"{port.tree}/lib/{name}")
+        assert same, f"the packages have the archive's {name}"
+
+
+def least_libc(library: str) -> str:
+    """Returns the least version of the C library that has all that a shared library needs."""
+    told = run(["readelf", "-W", "--dyn-syms", library]).out.decode()
+    return ".".join(max(re.findall(r"GLIBC_(\d+)\.(\d+)", told), key=lambda it: [*map(int, it)]))
+
+
+def parts(made: Made, script: str) -> None:
+    """The output of this canon-in-parts, called by its name and by a link."""
+    link = f"{made.folder}/link"
+    os.symlink(script, link)
+    for it in [script, link]:
+        assert run([it, "--lines", "2", "-"], ROADS, cwd="/") == said(ROADS_CANON.decode()), it
+    os.remove(link)
+
+
+def install(folder: str, *words: str, below: str = "", path: str = "") -> Answer:
+    """Runs ./install of this folder, with DESTDIR if it is given, and with a further folder on the path."""
+    own = {"DESTDIR": below, "PATH": f"{os.environ['PATH']}:{path or '/none'}"}
+    return run([f"{folder}/install", *words], cwd="/", env={**os.environ, **own})
+
+
+def test_fails(scratch: Made) -> None:
+    """A failed ./install leaves a list by which --uninstall works, and removes nothing else; and ./install
+    without bash and without /proc."""
+    prefix = f"{scratch.folder}/failing"
+    for path in ["share/fish", "bin/dnorm-explain/x"]:
+        os.makedirs(os.path.dirname(f"{prefix}/{path}"))
+        write(f"{prefix}/{path}", "mine")
+        before = all_below(prefix)
+        found = install(scratch.one.folder, prefix)
+        assert found.status == 1 and len(all_below(prefix)) > len(before), f"./install fails: {found.err!r}"
+        assert install(scratch.one.folder, "--uninstall", prefix) == said(), "--uninstall after a failure"
+        assert all_below(prefix) == before, "what is left after a failure"
+        shutil.rmtree(prefix)
+    # To the script this is a shell other than bash.
+    found = run(["sh", "-c", 'unset BASH_VERSION; . "$0"', f"{scratch.one.folder}/install", prefix])
+    assert found == said("", "install: this script needs bash\n", 3), "./install without bash"
+    hidden = ["unshare", "-m", "sh", "-c", 'mount -t tmpfs tmpfs /proc && "$@"', "sh"]
+    if os.geteuid() or run([*hidden, "true"]).status:
+        pass_over("the right to mount (root has it)")
+    found = run([*hidden, f"{scratch.one.folder}/install", prefix])
+    assert (found.err, found.status) == (b"", 0), "./install without /proc"
+    assert run([*hidden, f"{scratch.one.folder}/install", "--uninstall", prefix]) == said(), "--uninstall without /proc"
+    assert not os.path.exists(prefix), "nothing is left without /proc"
+
+
+def compiles(made: Made, modules: str) -> None:
+    """Lets Python compile modules in this folder, which it keeps beside them."""
+    code = "import dnorm; print(dnorm.__name__)"
+    kept = {
+        it: value for it, value in os.environ.items() if it not in ("PYTHONDONTWRITEBYTECODE", "PYTHONPYCACHEPREFIX")
+    }
+    assert run([sys.executable, "-c", code], env={**kept, "PYTHONPATH": modules}) == said("dnorm\n"), "the modules"
+    assert glob.glob(f"{glob.escape(modules)}/dnorm/__pycache__/*.pyc") != [], "compiled modules"
+
+
+def test_installs(made: Made, two: Place) -> None:
+    """What ./install installs from the archive and from the repository, and uninstalls again."""
+    for folder, linked in [(made.tree, f"{made.tree}/dnorm"), (made.one.folder, made.tested)]:
+        prefix = f"{made.folder}/a prefix"
+        os.makedirs(f"{prefix}/share/man")
+        write(f"{prefix}/share/other", "")
+        before = all_below(prefix)
+        for _ in range(2):
+            found = install(folder, prefix)
+            told, quoted = found.out.decode().splitlines(), prefix.replace(" ", "\\ ")
+            paths = sorted(f"{prefix}/{it}" for it in all_listed())
+            assert sorted(told[:-4]) == paths, "files that are printed"
+            assert told[-3] == f"export PATH={quoted}/bin:$PATH", "the path is printed"
+            assert told[-1] == f"fpath=({quoted}/share/zsh/site-functions $fpath)", "fpath is printed"
+            assert (found.err, found.status) == (b"", 0), "./install"
+        found = install(folder, prefix, path=f"{prefix}/bin")
+        assert len(found.out.splitlines()) == len(all_listed()) + 2, "the path is not printed"
+        wanted = {it: mode for mode, _, it in listed()} | dict.fromkeys(links_listed(), 0o644)
+        wanted |= {"share/dnorm/installed.txt": 0o644, "share/other": before["share/other"]}
+        assert files_of(all_below(prefix)) == wanted, "what is installed"
+        assert bytes_of(f"{prefix}/bin/dnorm") == bytes_of(linked), "the program"
+        by_cmake(f"{made.folder}/by cmake", prefix)
+        parts(made, f"{prefix}/bin/canon-in-parts")
+        compiles(made, f"{prefix}/share/dnorm/python")
+        assert install(folder, "--uninstall", prefix) == said(), "./install --uninstall"
+        assert all_below(prefix) == before, "what is left"
+        shutil.rmtree(prefix)
+
+
+def test_stages(scratch: Made) -> None:
+    """Installing below DESTDIR and moving the result, a prefix that did not exist, and what ./install refuses."""
+    stage, prefix = f"{scratch.folder}/stage", f"{scratch.folder}/moved"
+    os.mkdir(stage)
+    found = install(scratch.one.folder, "/usr", below=stage)
+    told = sorted(f"/usr/{it}" for it in all_listed())
+    assert (sorted(found.out.decode().splitlines()[:-2]), found.err, found.status) == (told, b"", 0), "DESTDIR"
+    shutil.copytree(f"{stage}/usr", prefix, symlinks=True)
+    assert install(scratch.one.folder, "--uninstall", "/usr", below=stage) == said(), "--uninstall below DESTDIR"
+    assert all_below(stage) == {}, "what is left below DESTDIR"
+    assert install(scratch.one.folder, "--uninstall", prefix) == said(), "--uninstall of what was moved"
+    assert not os.path.exists(prefix), "nothing is left"
+    lost = f"install: there is no {prefix}/share/dnorm/installed.txt, so nothing is known to be installed there\n"
+    assert install(scratch.one.folder, "--uninstall", prefix) == said("", lost, 1), "--uninstall of nothing"
+    for words in [[""], ["-x"], ["a", "b"], ["--uninstall", "a", "b"], ["--uninstall", "-x"], ["a", "--uninstall"]]:
+        assert install(scratch.one.folder, *words) == said(
+            "", "usage: ./install [--uninstall] [PREFIX]\n", 3
+        ), f"{words}"

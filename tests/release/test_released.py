@@ -1,0 +1,364 @@
+"""What a clone does with released/: ./dnorm, tools/program, tools/c-library and ./install take the released files if
+they were made from the sources that are there, and say in one line what to do if a file was changed, a source was, or
+the kit is another one; tools/released finds every released file that is not what is made here.
+
+All of this happens in scratch repositories with crates of one line, in which the tested program is the released one.
+What needs the kit and what it has made (by `./check`, or by tools/build and tools/c-library) is left out without
+these."""
+
+import gzip
+import os
+import re
+import shutil
+from collections.abc import Callable
+
+import pytest
+from known import ROADS, ROADS_CANON
+from needs import leave_out, pass_over
+from shared import ROOT, Answer, bytes_of, run, said, text_of, write
+
+pytestmark = pytest.mark.whole
+# What a scratch repository has of this one.
+FILES = [
+    "dnorm",
+    "install",
+    "kit.txt",
+    *(f"c/dnorm{it}" for it in [".h", "_codes.h", "_tools.h", ".hpp", ".pc", ".map"]),
+]
+FILES += ["c/dnorm-config.cmake", "c/dnorm-config-version.cmake", "crates/dn_command/src/help.rt"]
+TOOLS = ["find-program.sh", "program", "source-sum", "kit.py", "prover.py", "build", "c-library"]
+FILES += [f"tools/{it}" for it in TOOLS]
+FILES += ["tools/link-program", "tools/released", "tools/hidden-object"]
+OUT = "crates/dnorm/out"
+LIBRARY = "crates/dn_c/out/library"
+LIBRARIES = ["libdnorm.a", "libdnorm.so.2"]
+# What the kit has made here.
+MADE = [f"{OUT}/rlib/dnorm.o", *(f"{LIBRARY}/{it}" for it in ["dn_c.a", *LIBRARIES])]
+INSTALLED = ["755 dnorm bin/dnorm", "644 include/dnorm.h include/dnorm.h", "644 lib/libdnorm.a lib/libdnorm.a"]
+# A path of commands without `rt`.
+WITHOUT_RT = "/usr/bin:/bin"
+# The commands that ./dnorm calls to find the released program.
+USED = "bash cut date dirname env find head mkdir readlink sed sha256sum sort touch xargs"
+KIT = text_of(f"{ROOT}/kit.txt").strip()
+NO_RT = f"dnorm: proving needs the kit '{KIT}', and there is no rt on the PATH: see docs/PROVED.md; released/ has the "
+NO_RT += "proved program 1.0\n"
+CHANGED = (
+    "dnorm: released/ has other bytes than SHA256SUMS says: git restores it, and tools/build builds the program anew\n"
+)
+
+
+class Clone:
+    """A scratch repository whose released/ fits its sources."""
+
+    def __init__(self, folder: str, tested: str) -> None:
+        self.folder, self.released = folder, f"{folder}/released"
+        for it in FILES:
+            os.makedirs(os.path.dirname(f"{folder}/{it}"), exist_ok=True)
+            shutil.copy(f"{ROOT}/{it}", f"{folder}/{it}")
+        for name, text in {
+            "crates.txt": "dnorm:\ndn_c staticlib:\n",
+            "crates/dnorm/src/main.rt": "// a source\n",
+            "crates/dn_c/src/lib.rt": "// a source\n",
+            "share/installed.txt": "".join(f"{it}\n" for it in INSTALLED),
+            "docs/costs.txt": "",
+            "tools/definitions": "#!/bin/sh\n",
+        }.items():
+            self.write(name, text)
+        os.chmod(f"{folder}/tools/definitions", 0o755)
+        os.makedirs(f"{self.released}/x86_64")
+        shutil.copy(tested, f"{self.released}/x86_64/dnorm")
+        for it in LIBRARIES:
+            self.pack(it, it.encode())
+        self.tell()
+
+    def write(self, name: str, text: str | bytes) -> None:
+        os.makedirs(os.path.dirname(f"{self.folder}/{name}"), exist_ok=True)
+        write(f"{self.folder}/{name}", text)
+
+    def link(self, name: str, target: str) -> None:
+        os.makedirs(os.path.dirname(f"{self.folder}/{name}"), exist_ok=True)
+        os.symlink(target, f"{self.folder}/{name}")
+
+    def pack(self, name: str, library: bytes) -> None:
+        """Writes a library into released/."""
+        write(f"{self.released}/x86_64/{name}.gz", gzip.compress(library, mtime=0))
+
+    def tell(self, more: str = "") -> None:
+        """Writes what released/ is made from, with more lines, and its sums."""
+        lines = ["version: 1.0", f"kit: {KIT}"]
+        for it in ["program", "library"]:
+            lines.append(f"sources of the {it}: {self.run('tools/source-sum', it).out.decode().strip()}")
+        self.write("released/buildinfo", "".join(f"{it}\n" for it in lines) + more)
+        self.sum()
+
+    def sum(self) -> None:
+        """Writes the sums of the files of released/."""
+        found = [
+            os.path.relpath(f"{at}/{it}", self.released) for at, _, names in os.walk(self.released) for it in names
+        ]
+        sums = run(["sha256sum", *sorted({*found} - {"SHA256SUMS"})], cwd=self.released).out
+        self.write("released/SHA256SUMS", sums)
+
+    def run(self, name: str, *words: str, given: bytes = b"", path: str = WITHOUT_RT) -> Answer:
+        """Runs a script of the clone from another folder, with this path of commands."""
+        return run([f"{self.folder}/{name}", *words], given, cwd="/", env={**os.environ, "PATH": path})
+
+
+@pytest.fixture
+def clone(tested: str, folder: str) -> Clone:
+    if shutil.which("rt", path=WITHOUT_RT) or os.uname().machine != "x86_64":
+        pass_over(f"x86-64, and {WITHOUT_RT} without rt")
+    return Clone(f"{folder}/a clone", tested)
+
+
+def runs(what: str, clone: Clone, path: str = WITHOUT_RT) -> None:
+    """Tests that ./dnorm runs the program."""
+    assert clone.run("dnorm", given=ROADS, path=path) == said(ROADS_CANON), f"./dnorm, {what}"
+
+
+def stops(what: str, clone: Clone, line: str, path: str = WITHOUT_RT) -> None:
+    """Tests that ./dnorm runs nothing, and says why."""
+    assert clone.run("dnorm", given=ROADS, path=path) == said("", line, 125), f"./dnorm, {what}"
+    out = f"{clone.folder}/{OUT}"
+    left = [name for name in os.listdir(out) if "built" in name] if os.path.isdir(out) else []
+    assert left == [], f"what is left, {what}"
+
+
+def test_takes(clone: Clone) -> None:
+    """When ./dnorm takes the released program."""
+    source, text = "crates/dnorm/src/main.rt", "// a source\n"
+    runs("the first time", clone)
+    kept = bytes_of(f"{clone.folder}/tools/source-sum")
+    clone.write("tools/source-sum", "exit 1\n")
+    runs("which does not sum again", clone)
+    clone.write("tools/source-sum", kept)
+    assert clone.run("tools/program") == said(f"{clone.released}/x86_64/dnorm\n"), "tools/program"
+    clone.write(source, text)
+    runs("a source with a later time", clone)
+    for name, other in [
+        (source, "// another\n"),
+        ("crates.txt", "dnorm: \ndn_c staticlib:\n"),
+        ("kit.txt", f"{KIT}x\n"),
+    ]:
+        kept = bytes_of(f"{clone.folder}/{name}")
+        clone.write(name, other)
+        stops(f"another {name}", clone, NO_RT.replace(f"{KIT}'", f"{KIT}x'") if name == "kit.txt" else NO_RT)
+        wants = "dnorm: no program is built or released for these sources: tools/build proves and builds it\n"
+        assert clone.run("tools/program") == said("", wants, 125), f"tools/program, another {name}"
+        clone.write(name, kept)
+        runs(f"{name} as it was", clone)
+    clone.write("crates/dn_more/src/lib.rt", "")
+    runs("a crate that the program does not stand on", clone)
+    for name in ["crates.txt", "kit.txt", "crates/dnorm/src", "crates/dnorm"]:
+        shutil.move(f"{clone.folder}/{name}", f"{clone.folder}/away")
+        assert clone.run("tools/program").status == 125, f"tools/program without {name}"
+        shutil.rmtree(f"{clone.folder}/{name}", ignore_errors=True)
+        shutil.move(f"{clone.folder}/away", f"{clone.folder}/{name}")
+        runs(f"{name} again", clone)
+    clone.write("crates/dnorm/src/more.rt", "")
+    stops("a source more", clone, NO_RT)
+    os.remove(f"{clone.folder}/crates/dnorm/src/more.rt")
+    runs("a source less, as before", clone)
+    clone.write(f"{OUT}/dnorm", "#!/bin/sh\necho built\n")
+    os.chmod(f"{clone.folder}/{OUT}/dnorm", 0o755)
+    clone.write(f"{OUT}/built", "")
+    assert clone.run("dnorm") == said("built\n"), "./dnorm, a built program"
+    clone.write(source, text)
+    runs("a built program that is older than a source", clone)
+    shutil.rmtree(f"{clone.folder}/{OUT}")
+    clone.write(OUT, "")
+    runs("where no mark can be written", clone)
+
+
+def flip(path: str) -> None:
+    """Changes the first byte of a file, and leaves its time as it was."""
+    kept, told = bytes_of(path), os.stat(path)
+    with open(path, "r+b") as file:
+        file.write(bytes([kept[0] ^ 1]))
+    os.utime(path, ns=(told.st_atime_ns, told.st_mtime_ns))
+
+
+def script(clone: Clone) -> None:
+    clone.write("released/x86_64/dnorm", "#!/bin/sh\necho another answer\n")
+    clone.sum()
+
+
+AT = "released/x86_64/dnorm"
+DAMAGES: dict[str, tuple[Callable[[Clone], None], str]] = {
+    "a byte of the program": (lambda clone: flip(f"{clone.folder}/{AT}"), CHANGED),
+    "half of the program": (lambda clone: os.truncate(f"{clone.folder}/{AT}", 5000), CHANGED),
+    "an empty program": (lambda clone: os.truncate(f"{clone.folder}/{AT}", 0), CHANGED),
+    "a sum": (lambda clone: flip(f"{clone.released}/SHA256SUMS"), CHANGED),
+    "no sums": (lambda clone: os.remove(f"{clone.released}/SHA256SUMS"), CHANGED),
+    "a script with its sum": (script, "dnorm: {}/released/x86_64/dnorm is no program: tools/build builds one\n"),
+    "a program that may not run": (
+        lambda clone: os.chmod(f"{clone.folder}/{AT}", 0o644),
+        "dnorm: {}/released/x86_64/dnorm is not executable: chmod +x makes it so\n",
+    ),
+    "no program": (lambda clone: os.remove(f"{clone.folder}/{AT}"), NO_RT),
+    "no buildinfo": (
+        lambda clone: os.remove(f"{clone.released}/buildinfo"),
+        NO_RT.replace("; released/ has the proved program 1.0", ""),
+    ),
+}
+# After a call that has checked all, only the program itself is looked at.
+WAYS = [(it, is_marked) for it in DAMAGES for is_marked in [False, True] if not (is_marked and it.startswith("no "))]
+
+
+@pytest.mark.parametrize("what, is_marked", WAYS)
+def test_damaged(clone: Clone, what: str, is_marked: bool) -> None:
+    """A released program that is not whole is not run, the first time and after a call that ran it."""
+    change, line = DAMAGES[what]
+    if is_marked:
+        runs("before", clone)
+    change(clone)
+    stops(what, clone, line.format(clone.folder))
+
+
+def test_packed(clone: Clone, tested: str) -> None:
+    """A program that is packed, as the one for aarch64 is."""
+    name = "released/x86_64/dnorm.gz"
+    os.remove(f"{clone.released}/x86_64/dnorm")
+    clone.write(name, gzip.compress(bytes_of(tested)))
+    clone.sum()
+    runs("a packed program", clone)
+    runs("a packed program, again", clone)
+    os.chmod(f"{clone.folder}/{OUT}/released/dnorm-x86_64", 0o644)
+    runs("what was unpacked may not run", clone)
+    flip(f"{clone.folder}/{OUT}/released/dnorm-x86_64")
+    runs("what was unpacked has changed", clone)
+    mark = os.stat(f"{clone.folder}/{OUT}/released/mark").st_mtime_ns
+    runs("a packed program, once more", clone)
+    same = os.stat(f"{clone.folder}/{OUT}/released/mark").st_mtime_ns == mark
+    assert same, "it is not unpacked again"
+    kept = bytes_of(f"{clone.folder}/{name}")
+    clone.write(name, bytes([*kept[:5000], kept[5000] ^ 1, *kept[5001:]]))
+    line = f"dnorm: {clone.folder}/{name} could not be unpacked to {clone.folder}/{OUT}/released/dnorm-x86_64\n"
+    for changed in [bytes([*kept[:5000], kept[5000] ^ 1, *kept[5001:]]), kept[:-9]]:
+        clone.write(name, changed)
+        stops(f"{len(changed)} other bytes of a packed program", clone, line)
+    assert sorted(os.listdir(f"{clone.folder}/{OUT}/released")) == ["dnorm-x86_64", "mark"], "what is left of it"
+
+
+def test_kits(clone: Clone) -> None:
+    """Other programs that are named rt: nothing is proved, and both versions are told."""
+    clone.write("crates/dnorm/src/main.rt", "// another\n")
+    path = f"{clone.folder}/bin:{WITHOUT_RT}"
+    said = {
+        "echo 'rattle-kit-14 logic 00'": "rattle-kit-14 logic 00",
+        "echo 'rt: no such command' >&2; exit 1": "rt: no such command",
+        "exit 3": "nothing",
+        f"echo '{KIT} and more'": f"{KIT} and more",
+    }
+    for text, found in said.items():
+        clone.write("bin/rt", f"#!/bin/sh\n{text}\n")
+        os.chmod(f"{clone.folder}/bin/rt", 0o755)
+        wrong = f"{clone.folder}/bin/rt is another program or another version: `rt version` prints '{found}'"
+        stops(f"rt: {text}", clone, NO_RT.replace("there is no rt on the PATH", wrong), path)
+    clone.write("bin/rt", f"#!/bin/sh\necho '{KIT}'\n")
+    wrong = f"{clone.folder}/bin/rt is not in the folder of a kit"
+    stops("rt outside of a kit", clone, NO_RT.replace("there is no rt on the PATH", wrong), path)
+
+
+def test_without_python(clone: Clone) -> None:
+    """Tests ./dnorm where there is no python3, which only a proof needs."""
+    for name in USED.split():
+        clone.link(f"bin/{name}", shutil.which(name, path=WITHOUT_RT) or "")
+    path = f"{clone.folder}/bin"
+    runs("without python3", clone, path)
+    clone.write("crates/dnorm/src/main.rt", "// another\n")
+    line = "dnorm: no program is released for these sources; a proof needs python3 and the kit "
+    stops("another source without python3", clone, f"{line}'{KIT}': see docs/PROVED.md\n", path)
+
+
+def test_library(clone: Clone) -> None:
+    """Tools/c-library and ./install without the kit."""
+    assert clone.run("tools/c-library") == said(), "tools/c-library"
+    found_libraries = {name: bytes_of(f"{clone.folder}/c/out/lib/{name}") for name in LIBRARIES}
+    assert found_libraries == {name: name.encode() for name in LIBRARIES}, "the libraries"
+    prefix = f"{clone.folder}/prefix"
+    found = clone.run("install", prefix)
+    assert (found.err, found.status) == (b"", 0), "./install"
+    places = ["bin/dnorm", "include/dnorm.h", "lib/libdnorm.a"]
+    assert [os.path.exists(f"{prefix}/{it}") for it in places] == [True] * 3, "what is installed"
+    assert run([f"{prefix}/bin/dnorm"], ROADS) == said(ROADS_CANON), "the installed program"
+    for name in ["c/dnorm.map", "crates/dn_c/src/lib.rt"]:
+        kept = bytes_of(f"{clone.folder}/{name}")
+        clone.write(name, kept + b"\n")
+        assert clone.run("tools/c-library") == said("", NO_RT, 125), f"tools/c-library, another {name}"
+        assert clone.run("install", prefix).status == 125, f"./install, another {name}"
+        clone.write(name, kept)
+    flip(f"{clone.released}/x86_64/libdnorm.a.gz")
+    os.remove(f"{clone.folder}/c/out/built")
+    line = "dnorm: released/ has other bytes than SHA256SUMS says: git restores it\n"
+    assert clone.run("tools/c-library") == said("", line, 125), "tools/c-library, another byte"
+    assert clone.run("tools/c-library", "--proved") == said("", NO_RT, 125), "--proved without the kit"
+
+
+def linked_here(clone: Clone) -> str:
+    """Makes released/ of what the kit has made here, and returns what it was linked with and from."""
+    lines = ["linked for x86_64:"]
+    linker = run(["gcc", "-print-prog-name=ld"]).out.decode().strip()
+    for it in ["gcc", linker]:
+        lines.append(f"{os.path.basename(it)}: {run([it, '--version']).out.decode().splitlines()[0]}")
+    libc = run(["gcc", "-print-file-name=libc.a"]).out.decode().strip()
+    for it in [*(f"{clone.folder}/{name}" for name in MADE[:2]), libc]:
+        lines.append(f"{run(['sha256sum', it]).out.decode().split()[0]}  {os.path.basename(it)}")
+    return "".join(f"{it}\n" for it in lines)
+
+
+@pytest.fixture
+def made_here(clone: Clone) -> Clone:
+    """Returns a scratch repository with what the kit has made here, of which its released/ is made."""
+    for tool in ["rt", "gcc"]:
+        if not shutil.which(tool):
+            leave_out(tool)
+    lacking = [name for name in MADE if not os.path.exists(f"{ROOT}/{name}")]
+    if lacking or KIT != run(["rt", "version"]).out.decode().strip():
+        pass_over(", ".join(lacking) or KIT)
+    for name in MADE:
+        clone.write(name, bytes_of(f"{ROOT}/{name}"))
+    found = clone.run("tools/link-program", f"{clone.released}/x86_64/dnorm", path=os.environ["PATH"])
+    assert found == said(), "tools/link-program"
+    for name in LIBRARIES:
+        clone.pack(name, bytes_of(f"{ROOT}/{LIBRARY}/{name}"))
+    clone.tell(linked_here(clone))
+    return clone
+
+
+def finds(clone: Clone, what: str, line: str, passed: int, failed: int) -> None:
+    """Tools/released prints this line, and how many of its checks pass and fail."""
+    found = clone.run("tools/released", path=os.environ["PATH"])
+    said = found.out.decode()
+    is_so = line in said and said.endswith(f"{passed} passed, {failed} failed\n") and found.status == (failed > 0)
+    assert is_so, f"tools/released, {what}: {found}"
+
+
+def test_compared(made_here: Clone) -> None:
+    """Tools/released finds what is not made again."""
+    clone = made_here
+    finds(clone, "as it was made", "", 7, 0)
+    for name in ["dnorm", *(f"{name}.gz" for name in LIBRARIES)]:
+        flip(f"{clone.released}/x86_64/{name}")
+        finds(clone, f"a byte of {name}", "do not have the sums", 5, 2)
+        clone.sum()
+        finds(clone, f"a byte of {name}, with its sum", f"x86_64/{name} has other bytes", 6, 1)
+        flip(f"{clone.released}/x86_64/{name}")
+        clone.sum()
+    for name, line, passed in [(MADE[0], "the object that is proved", 4), (MADE[1], "the archive of dn_c", 6)]:
+        flip(f"{clone.folder}/{name}")
+        finds(clone, f"another {name}", line, passed, 1)
+        flip(f"{clone.folder}/{name}")
+    clone.write("released/x86_64/more", "")
+    finds(clone, "a file more", "do not have the sums", 6, 1)
+    os.remove(f"{clone.released}/x86_64/more")
+    clone.tell(re.sub(r"\w{64}  libc\.a", f"{'0' * 64}  libc.a", linked_here(clone)))
+    finds(clone, "another C library", "another gcc, linker or C library", 4, 0)
+    clone.tell(linked_here(clone))
+    for name, kind in [("crates/dnorm/src/main.rt", "program"), ("c/dnorm.map", "library")]:
+        kept = bytes_of(f"{clone.folder}/{name}")
+        clone.write(name, kept + b"\n")
+        finds(clone, f"another {name}", f"the {kind} was made from other sources", 4, 0)
+        clone.write(name, kept)
+    clone.write("kit.txt", f"{KIT}x\n")
+    finds(clone, "another kit", "the program was made from other sources", 1, 0)
