@@ -194,7 +194,8 @@ def test_preloaded(at_length: Emulated, folder: str, name: str) -> None:
     for it in os.listdir("tools"):
         os.chmod(f"tools/{it}", 0o755)
     # The built test of the libraries is for this machine. In another folder than the repository, none is found.
-    shutil.copytree(f"{ROOT}/tests", "tests")
+    for it in ["tests", "examples/refused"]:
+        shutil.copytree(f"{ROOT}/{it}", it)
     path = f"{folder}/tools:{os.environ['PATH']}"
     passes(f"{folder}/tools/dnorm", f"program/test_{name}.py", f"{folder}/tests", PATH=path)
 
