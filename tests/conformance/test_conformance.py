@@ -33,6 +33,8 @@ RUN, FORMAT = f"{FOLDER}/run.py", "docs/FORMAT.md"
 # The least number of planted mistakes, the greatest number of cases, and the least share of the mistakes that a line of
 # any type can have, planted into each type, that cases find.
 LEAST, MOST, SHARE = 500, 2500, 0.98
+# A limit that no call of the program comes near, even on a busy machine: the suite prints a line on calls that do.
+PATIENT = ["--limit", str(5 * LIMIT)]
 # What follows "Cases:" in FORMAT.md: names, or a range of names.
 NAMED = re.compile(r"\*[Cc]ases\b[^`]*((?:`[\w-]+`(?: to |, and |, )?)+)")
 RANGE = re.compile(r"`refusal-(\d+)` to `refusal-(\d+)`")
@@ -208,7 +210,7 @@ def test_cases_not_chosen(suite: Suite, made: Conformance) -> None:
     chosen = {it.id for it in suite.entries}
     others = [it for it in suite.all if it.id not in chosen]
     write(f"{copy}/cases.json", cases_json(others))
-    found = made.run("--level", "compare", made.tested, script=f"{copy}/run.py")
+    found = made.run("--level", "compare", *PATIENT, made.tested, script=f"{copy}/run.py")
     wanted = f"{len(others)} cases pass, 0 fail (level compare)\n"
     assert found == Answer(wanted.encode(), b"", 0), "the program, cases that were not chosen"
 
@@ -400,7 +402,7 @@ def test_by_module(made: Conformance) -> None:
     """`python3 -m dnorm conformance`, and that the suite is installed as it is here."""
     environment = {**os.environ, "PYTHONPATH": f"{ROOT}/python/src", "PYTHONDONTWRITEBYTECODE": "1"}
     passing = f"{len(ids_of('first'))} cases pass, 0 fail (level compare)\n"
-    words = ["--level", "compare", "--rule", "first", made.tested]
+    words = ["--level", "compare", *PATIENT, "--rule", "first", made.tested]
     runs: list[tuple[list[str], str, int]] = [(words, passing, 0), ([], "", 3)]
     for words, out, status in runs:
         found = run([sys.executable, "-m", "dnorm", "conformance", *words], cwd=made.folder, env=environment)

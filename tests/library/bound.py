@@ -3,92 +3,31 @@ with its handle."""
 
 import ctypes
 from collections.abc import Sequence
-from typing import Any, NamedTuple, Optional
+from typing import Any, NamedTuple
 
-WRONG_CALL, NO_KIND, NOT_BOTH = 40, 0, 255
-# The number of the interface.
-ABI = 2
+from dnorm import handles, library
+from dnorm.library import HANDLE, PLACE, Count, Handle, Place
+
+WRONG_CALL, NOT_BOTH = 40, 255
 KINDS = ["", "min", "max", "sp", "ss", "p2p", "co"]
-
-
-class Handle(ctypes.Structure):
-    _fields_ = [("work", ctypes.c_void_p), ("full", ctypes.c_bool)]
-
-
-class Status(ctypes.Structure):
-    _fields_ = [("code", ctypes.c_uint8), ("place", ctypes.c_uint8), ("line", ctypes.c_uint64)]
-
-
-class Summary(ctypes.Structure):
-    _fields_ = [
-        ("kind", ctypes.c_uint8),
-        ("nodes", ctypes.c_int64),
-        ("lines", ctypes.c_int64),
-        ("pairs", ctypes.c_uint64),
-        ("items", ctypes.c_uint64),
-    ]
-
-
-class Count(ctypes.Structure):
-    _fields_ = [("count", ctypes.c_size_t), ("code", ctypes.c_uint8)]
 
 
 class Arc(ctypes.Structure):
     _fields_ = [(name, ctypes.c_int64) for name in ("tail", "head", "a", "b", "c")]
 
 
-class Place(ctypes.Structure):
-    _fields_ = [
-        ("pairs", ctypes.c_size_t),
-        ("within", ctypes.c_uint64),
-        *[(name, ctypes.c_int64) for name in ("a", "b", "c")],
-    ]
-
-
 class Item(ctypes.Structure):
     _fields_ = [(name, ctypes.c_int64) for name in ("id", "a", "b")]
 
 
-class Value(ctypes.Structure):
-    _fields_ = [("known", ctypes.c_bool), ("high", ctypes.c_int64), ("low", ctypes.c_uint64)]
-
-    def number(self) -> Optional[int]:
-        return int(self.high * 2**64 + self.low) if self.known else None
-
-
-class Difference(ctypes.Structure):
-    _fields_ = [
-        ("what", ctypes.c_uint8),
-        ("at", ctypes.c_int64),
-        ("to", ctypes.c_int64),
-        ("index", ctypes.c_uint64),
-        ("amount", ctypes.c_int64),
-        ("left", Value),
-        ("right", Value),
-    ]
-
-
-class Fit(ctypes.Structure):
-    _fields_ = [("code", ctypes.c_uint8), ("node", ctypes.c_int64)]
-
-
-HANDLE, SIZE, BYTE, PLACE = ctypes.POINTER(Handle), ctypes.c_size_t, ctypes.c_uint8, ctypes.POINTER(Place)
-# Each function: what it returns, and its arguments.
+BYTES = [ctypes.c_void_p, ctypes.c_size_t]
+# Each function: what it returns, and its arguments. The package has those that it calls.
 FUNCTIONS: dict[str, tuple[Any, ...]] = {
-    "begin": (Status, HANDLE),
-    "feed": (Status, HANDLE, ctypes.c_char_p, SIZE),
-    "finish": (Status, HANDLE),
-    "facts": (Summary, HANDLE),
-    "arc_count": (Count, HANDLE, BYTE),
-    "next": (Count, HANDLE, BYTE, PLACE, ctypes.c_void_p, SIZE),
-    "columns": (Count, HANDLE, BYTE, PLACE, *[ctypes.c_void_p, SIZE] * 5),
-    "items": (Count, HANDLE, PLACE, ctypes.c_void_p, SIZE),
-    "canon": (Status, HANDLE, BYTE, HANDLE),
-    "text": (Count, HANDLE, SIZE, ctypes.c_void_p, SIZE),
-    "compare": (Difference, HANDLE, HANDLE),
-    "fits": (Fit, HANDLE, HANDLE),
-    "name": (Count, HANDLE, ctypes.c_void_p, SIZE),
-    "free": (None, HANDLE),
+    **library.FUNCTIONS,
+    **handles.FUNCTIONS,
+    "next": (Count, HANDLE, ctypes.c_uint8, PLACE, *BYTES),
+    "text": (Count, HANDLE, ctypes.c_size_t, *BYTES),
+    "name": (Count, HANDLE, *BYTES),
     "abi": (ctypes.c_uint32,),
 }
 

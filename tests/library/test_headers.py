@@ -12,12 +12,14 @@ import shutil
 import subprocess
 
 import pytest
-from bound import ABI, FUNCTIONS, WRONG_CALL
+from bound import FUNCTIONS, WRONG_CALL
 from builds import GIVEN, compiled, refusal_lines, sentences_of, version_of
 from known import CANONICAL, COSTS, FLOWS, ROADS, ROADS_CANON
 from needs import need, need_proc, pass_over
 from refusal_table import refusals
 from shared import ROOT, run, said, text_of, write
+
+from dnorm.library import ABI
 
 pytestmark = [pytest.mark.whole, pytest.mark.usefixtures("folder")]
 CODE = re.compile(r"^    (DNORM_[A-Z_]+) = (\d+),?$", re.M)

@@ -12,12 +12,14 @@ from collections.abc import Callable
 from typing import Any
 
 import pytest
-from bound import ABI, KINDS, NOT_BOTH, WRONG_CALL, Answer, Arc, Handle, Item, Library, Place, WrongCall
+from bound import KINDS, NOT_BOTH, WRONG_CALL, Answer, Arc, Item, Library, WrongCall
 from known import CANONICAL, COMPARED, COSTS, FITTED, FLOWS, REFUSED, ROADS
 from needs import seeds
 from reading import COUNTED, NAMES
 from shared import Quick
 from texts import lines_of, made, spelled, spoilt
+
+from dnorm.library import ABI, Handle, Place
 
 pytestmark = pytest.mark.whole
 # The random texts and orders of calls of each seed, the calls of an order, and the places of each text.

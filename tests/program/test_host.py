@@ -1,6 +1,6 @@
 """The built program on the files and streams of the host: which names open which texts, streams that are closed, full
-or broken, files that cannot be read, little memory, little stack, a long line, and each command once. No signal may
-ever end the program."""
+or broken, files that cannot be read, little memory, little stack, a long line, and runs that known.py has not. No
+signal may ever end the program."""
 
 import fcntl
 import os
@@ -14,7 +14,7 @@ from collections.abc import Callable, Iterator
 from typing import IO, Any
 
 import pytest
-from known import COSTS, COSTS_ONE, COSTS_TWO, ROADS, ROADS_CANON
+from known import COSTS, COSTS_ONE, ROADS, ROADS_CANON
 from needs import need_proc
 from shared import LIMIT, Answer, least_level, own_folder, pipe, run, said, within, write
 
@@ -44,29 +44,14 @@ FILES = {
 
 # Arguments, the expected standard output and standard error, and the status.
 COMMANDS = [
-    ("show h.min", b"kind min\nnodes 2\nlines 3\nsupplies 0\npairs 1\npair 1 2 forced 2 cost 3 steps 3\n", b"", 0),
-    ("show g.gr", ROADS_SHOWN, b"", 0),
     ("check m.min", b"accepted min\nforms none\n", b"", 0),
-    ("check g.gr --with s.ss", b"accepted sp\nfits ss\nforms none\n", b"", 0),
     ("check --with=s.ss c.gr", b"accepted sp\nfits ss\nforms 1 2\n", b"", 0),
-    ("check g.gr --with q.p2p", b"", b"q.p2p: 35 NotInGraph 7\n", 2),
     ("check m.min --with s.ss", b"", b"s.ss: 36 NotKinds\n", 2),
-    ("check f.min", b"accepted min\nforms 1\n", b"", 0),
-    ("check c.gr", b"accepted sp\nforms 1 2\n", b"", 0),
-    ("canon g.gr", ROADS_CANON, b"", 0),
     ("canon n.max", b"", b"n.max:5: 17 SumTooLarge\n", 2),
-    ("canon h.min", COSTS_ONE, b"", 0),
-    ("canon --form 1 h.min", COSTS_ONE, b"", 0),
-    ("canon --form 2 h.min", COSTS_TWO, b"", 0),
-    ("canon h.min --form=2", COSTS_TWO, b"", 0),
     ("canon --form 3 h.min", b"", b"dnorm: bad command line\n", 3),
-    ("canon", b"", b"dnorm: bad command line\n", 3),
     ("canon g.gr h.min", b"", b"dnorm: bad command line\n", 3),
-    ("g.gr", b"", b"dnorm: bad command line\n", 3),
-    ("compare g.gr c.gr", b"same\n", b"", 0),
     ("compare g.gr h.min", b"differ kind sp min\n", b"", 1),
     ("compare h.min m.min", b"differ nodes 2 3\n", b"", 1),
-    ("compare n.max missing", b"", b"n.max:5: 17 SumTooLarge\n", 2),
     ("compare g.gr missing", b"", b"missing: 31 Read\n", 4),
     ("compare - -", b"", b"dnorm: standard input named twice\n", 3),
     ("check - --with -", b"", b"dnorm: standard input named twice\n", 3),

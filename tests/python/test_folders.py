@@ -162,10 +162,8 @@ WRONG = [
 
 def make_set() -> None:
     """Makes the files of the folder, and others that a check of the folder leaves out."""
-    for name, text in {**{it: text for it, (text, _) in SET.items()}, **dict.fromkeys(OTHERS, b"x\n")}.items():
-        os.makedirs(os.path.dirname(name), exist_ok=True)
-        end = os.path.splitext(name)[1]
-        write(name, COMPRESS[end](text) if end in COMPRESS else text)
+    make({name: COMPRESS.get(os.path.splitext(name)[1], bytes)(text) for name, (text, _) in SET.items()})
+    make(dict.fromkeys(OTHERS, b"x\n"))
     os.symlink("..", "set/a/loop.gr")
     os.mkfifo("set/pipe")
 
@@ -559,37 +557,39 @@ def test_many() -> None:
     assert module("check", "many") == said(lines, f"{end}1980 accepted, 20 refused, 0 failed\n", 2), "2,000 files"
 
 
-def test_progress() -> None:
-    """The progress bar, which is drawn on a terminal only, and its removal before each line."""
+def on_terminal(*words: str) -> tuple[str, int]:
+    """Runs a command on a terminal. Returns what it writes there, and its status."""
     upper, lower = terminal()
-    slow = fake("slow", "sleep 0.3; cat > /dev/null; echo accepted sp; echo forms 1")
-    names = [f"{it}.gr" for it in range(4)]
-    for name in names:
-        write(name, ROADS)
-    process = started("check", "--jobs", "1", "--program", slow, *names, stderr=lower, stdout=lower)
+    process, told = started(*words, stdout=lower, stderr=lower), b""
     os.close(lower)
-    said = b""
     with contextlib.suppress(OSError):
         while piece := os.read(upper, 4096):
-            said += piece
+            told += piece
     os.close(upper)
-    assert process.wait(LIMIT) == 0, "the status on a terminal"
-    bars = re.findall(rb"\r\[(#*)\.*\] (\d) of 4, \d+ %", said)
-    shares = [int(it) for it in re.findall(rb"of 4, (\d+) %", said)]
+    return told.decode().replace("\r\n", "\n"), process.wait(LIMIT)
+
+
+def test_progress() -> None:
+    """The progress bar, which is drawn on a terminal only, and its removal before each line."""
+    slow = fake("slow", "sleep 0.3; cat > /dev/null; echo accepted sp; echo forms 1")
+    names = [f"{it}.gr" for it in range(4)]
+    make(dict.fromkeys(names, ROADS))
+    told, status = on_terminal("check", "--jobs", "1", "--program", slow, *names)
+    assert status == 0, "the status on a terminal"
+    bars = re.findall(r"\r\[(#*)\.*\] (\d) of 4, \d+ %", told)
+    shares = [int(it) for it in re.findall(r"of 4, (\d+) %", told)]
     assert shares == sorted(shares) and shares[:1] < [50] and shares[-1:] > [50], f"shares rise: {shares}"
     assert {len(it) for it, _ in bars} == {30 * int(at) // 4 for _, at in bars}, "bars on a terminal"
     assert bars, "there are bars on a terminal"
-    shown = said.decode().replace("\r\n", "\n").split("\n")
     wanted = [*(f"{it}: accepted sp" for it in names), "4 accepted, 0 refused, 0 failed", ""]
-    assert [it.rpartition("\r")[2] for it in shown] == wanted, "lines on a terminal"
+    assert [it.rpartition("\r")[2] for it in told.split("\n")] == wanted, "lines on a terminal"
 
 
 def test_together() -> None:
     """As many programs run at once as were asked for."""
     program = fake("counts", "echo + >> log; sleep 0.3; echo - >> log; cat > /dev/null; echo accepted sp; echo forms 1")
     names = [f"{it}.gr" for it in range(9)]
-    for name in names:
-        write(name, ROADS)
+    make(dict.fromkeys(names, ROADS))
     for jobs in [1, 3]:
         write("log", "")
         module("check", "--jobs", str(jobs), "--program", program, *names)
@@ -605,8 +605,7 @@ def test_signals() -> None:
     """A signal ends the programs, and leaves nothing half-written."""
     slow = fake("slow", "echo $$ >> started; exec sleep 60")
     names = [f"{it}.gr" for it in range(9)]
-    for name in names:
-        write(name, ROADS)
+    make(dict.fromkeys(names, ROADS))
     write("list", "".join(f"{'0' * 64}  {it}\n" for it in names))
     for words in RUNS:
         for number in [signal.SIGINT, signal.SIGTERM, signal.SIGHUP]:
@@ -639,8 +638,7 @@ def test_known_so_far() -> None:
     """A signal lets a check print what is known, also of files behind one that takes long; and that -x ends
     a check after the first fault."""
     names = [f"{it}.gr" for it in range(6)]
-    for name in names:
-        write(name, ROADS)
+    make(dict.fromkeys(names, ROADS))
     write("1.gr", b"slow\n")
     write("3.gr", b"bad\n")
     program = fake(

@@ -20,12 +20,12 @@ from xml.etree import ElementTree
 import pytest
 from collection import zstd
 from known import COSTS, FLOWS, ROADS, ROADS_CANON
-from needs import leave_out, terminal
+from needs import leave_out
 from reading import Text as Known
 from reading import Fault, canonical, read
-from shared import LIMIT, ROOT, bytes_of, python_with, run, said, write
+from shared import ROOT, bytes_of, python_with, run, said, write
 from test_calls import BOTH, COMPRESS, READS, fake, told
-from test_folders import ENVIRONMENT, make, module, started
+from test_folders import ENVIRONMENT, make, module, on_terminal
 from texts import lines_of, made, spelled
 
 import dnorm
@@ -517,16 +517,7 @@ def test_on_terminal() -> None:
     shown = [r"a\x1b[31m\x09.gr", r"b\x7f\xc2\x9b\xe2\x80\xae.gr", r"c\x9b\xff.gr", "dé.gr"]
     for it in names:
         write(it, b"x\n")
-    upper, lower = terminal()
-    process = started("check", *names, stdout=lower, stderr=lower)
-    os.close(lower)
-    said = b""
-    with contextlib.suppress(OSError):
-        while piece := os.read(upper, 4096):
-            said += piece
-    os.close(upper)
-    process.wait(LIMIT)
-    lines = [it.rpartition("\r")[2] for it in said.decode().replace("\r\n", "\n").split("\n")]
+    lines = [it.rpartition("\r")[2] for it in on_terminal("check", *names)[0].split("\n")]
     assert lines[:4] == [f"{it}:1: 1 BadLine" for it in shown], "names on a terminal"
     assert lines[4:12:2] == [f"{it}:1: 1 BadLine" for it in shown], "names on a terminal, again"
     found = module("check", "-q", *names)

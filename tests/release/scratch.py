@@ -28,9 +28,12 @@ SCRIPTS = {
 WITH = [".gitignore", "kit.txt", "install", "share/installed.txt", "c/runtime-aarch64.c", "c/dnorm.map"]
 WITH += ["tools/release", "tools/shipped", "tools/pages.py", "tools/wheel.py", "tools/kit.py", "tests/shared.py"]
 WITH += ["tools/link-program", "tools/source-sum", "tools/program", "tools/find-program.sh"]
+WITH += [f"tools/debian/{it}" for it in os.listdir(f"{ROOT}/tools/debian")]
 # The author of the commits and their time; and that time as tar prints it.
 WHO = {"NAME": "A B", "EMAIL": "a@example.org", "DATE": "2026-01-02T03:04:05+00:00"}
 TIME = 1767323045
+# How many seconds a release may take.
+MOST = 300
 # Files whose path in the package differs from that of ./install, or that the package lacks.
 MOVED = {
     "share/doc/dnorm/CHANGELOG.md": "share/doc/dnorm/changelog.gz",
@@ -149,7 +152,7 @@ class Place:
         self.has_commit = True
 
     def release(self, *words: str) -> Answer:
-        return run([f"{self.folder}/tools/release", *words], cwd="/")
+        return run([f"{self.folder}/tools/release", *words], cwd="/", limit=MOST)
 
 
 class Made:

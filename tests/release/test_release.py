@@ -453,7 +453,7 @@ def test_shared_files(made: Made, two: Place) -> None:
         assert run(["dpkg-deb", "-e", f"{made.one.dist}/{port.package}", control]) == said()
         told.append({*text_of(f"{control}/md5sums").splitlines()})
     own = {it.split()[1] for one in told for it in one ^ told[0]}
-    assert own == ({"usr/bin/dnorm", "usr/share/lintian/overrides/dnorm"} if len(told) > 1 else set())
+    assert own == ({"usr/bin/dnorm"} if len(told) > 1 else set())
     to = unpacked(made, made.ports[0])
     parts(made, f"{to}/usr/bin/canon-in-parts")
     links(made, f"{to}/usr/share/doc/dnorm")
@@ -526,11 +526,11 @@ def test_packages_of_library(made: Made, port: Port) -> None:
         for field, value in {**own, **common}.items():
             assert run(["dpkg-deb", "-f", path, field]) == said(f"{value}\n"), f"{field} of {name}"
     names = {
-        "shlibs": f"libdnorm 2 libdnorm2 (>= {version.removesuffix('-1')})\n",
-        "triggers": "activate-noawait ldconfig\n",
+        "shlibs": f"libdnorm 2 libdnorm2 (>= {version.removesuffix('-1')})",
+        "triggers": "activate-noawait ldconfig",
     }
-    found_names = {it: text_of(f"{made.folder}/control-{port.shared}/{it}") for it in names}
-    assert found_names == names, "control files of libdnorm2"
+    for it, line in names.items():
+        assert text_of(f"{made.folder}/control-{port.shared}/{it}").splitlines()[-1] == line, f"{it} of libdnorm2"
     found = {os.path.relpath(f"{at}/{it}", to) for at, _, files in os.walk(to, followlinks=True) for it in files}
     assert found == set(wanted), "the files of both packages"
     page = text_of(f"{to}/usr/share/doc/libdnorm-dev/LIBRARY.md")

@@ -1,26 +1,29 @@
 // A source over a stream.
-ghost use Rattle.std.specs.Prelude.{◌≡◌, ◌<◌, ◌≤◌, ◌++◌, length, take, false, slice_range, IfOk, IsTrue, OnOk, OnErr, vec_len};
+ghost use Rattle.std.specs.Prelude.{◌≡◌, ◌<◌, ◌≤◌, [], ◌++◌, length, false, slice_range, IfOk, IsTrue, OnOk, OnErr, vec_len};
 ghost use Rattle.std.specs.Io.KnownBytes.{Keeps, IsAtEnd, prepend_known};
 ghost use Rattle.dn_host.specs.Openers.{Remains};
 ghost use Rattle.dn_host.specs.Streams.{PullsStream};
 
 use crate::stream::{Stream, read_retrying};
-use dn_line::{Source, SourceFault};
+use dn_line::{Source, SourceFault, piece_len};
 use std::alloc::{AllocError, Global};
 
 // The size in bytes of the buffer of a source.
 const BUFFER: usize = 65536;
 
-/// Gives the bytes of a stream. The buffer keeps the number of reads small, however few bytes a pull asks for. An
-/// interrupted read is retried. Any other error is a failure, and after a failure the source does not read again.
+/// Gives the bytes of a stream. It lends pieces of its buffer, which keeps the number of reads small, however few bytes
+/// a pull asks for. An interrupted read is retried. Any other error is a failure, and after a failure the source does
+/// not read again.
 #[derive(Drop)]
 pub struct Buffered<S: Stream> {
     stream: S,
-    // The bytes from `start` to `end` were read, and not given yet.
+    // The bytes from `begin` to `start` are the piece, and those from `start` to `end` were read, and not given yet.
     bytes: Vec<u8>,
+    begin: usize,
     start: usize,
     end: usize,
     failed: bool,
+    ghost begun: { begin ≤ start },
     ghost ordered: { start ≤ end },
     ghost within: { end ≤ vec_len bytes },
     ghost some: { 0 < vec_len bytes },
@@ -39,6 +42,7 @@ impl<S: Stream> Buffered<S> {
         Ok(Buffered {
             stream,
             bytes,
+            begin: 0,
             start: 0,
             end: 0,
             failed: false,
@@ -58,6 +62,7 @@ impl<S: Stream> Buffered<S> {
         ensures pulls { PullsStream S.stream (record { stream = self.old.stream; failed = self.old.failed })
             (record { stream = self.new.stream; failed = self.new.failed }) }
     {
+        self.begin = 0;
         self.start = 0;
         self.end = 0;
         match read_retrying(&mut self.stream, self.bytes.as_mut_slice()) {
@@ -72,21 +77,19 @@ impl<S: Stream> Buffered<S> {
         }
     }
 
-    // Gives as many bytes of the buffer as there is room for, and returns their count.
-    fn give(&mut self, into: &mut [u8]) -> usize
-        ensures bound { result ≤ length into.new }
+    // Makes the next bytes of the buffer the piece, at most `most`.
+    fn give(&mut self, most: usize)
+        ensures bound { length (slice_range self.new.bytes.items self.new.begin self.new.start) ≤ most }
         ensures bytes { slice_range self.old.bytes.items self.old.start self.old.end
-            ≡ take result into.new ++ slice_range self.new.bytes.items self.new.start self.new.end }
-        ensures none { result ≡ 0 → 0 < length into.old → self.old.end ≤ self.old.start }
+            ≡ slice_range self.new.bytes.items self.new.begin self.new.start
+            ++ slice_range self.new.bytes.items self.new.start self.new.end }
+        ensures none { slice_range self.new.bytes.items self.new.begin self.new.start ≡ [] → 0 < most
+            → self.new.end ≤ self.new.start }
         ensures stream { self.new.stream ≡ self.old.stream }
         ensures failed { self.new.failed ≡ self.old.failed }
     {
-        let ready = &self.bytes[self.start..self.end];
-        let n = ready.len().min(into.len());
-        let (front, _) = ready.split_at(n);
-        into[..n].copy_from_slice(front);
-        self.start += n;
-        n
+        self.begin = self.start;
+        self.start += piece_len(&self.bytes[self.start..self.end], most);
     }
 }
 
@@ -98,13 +101,20 @@ impl<S: Stream> Source for Buffered<S> {
           (record { stream = new.stream; failed = new.failed });
     } };
 
-    fn pull(&mut self, into: &mut [u8]) -> Result<usize, SourceFault> {
+    ghost piece = { λ s. slice_range s.bytes.items s.begin s.start };
+
+    fn pull(&mut self, most: usize) -> Result<(), SourceFault> {
         if self.failed {
             return Err(SourceFault);
         }
         if self.start == self.end {
             self.fill()?;
         }
-        Ok(self.give(into))
+        self.give(most);
+        Ok(())
+    }
+
+    fn piece(&self) -> &[u8] {
+        &self.bytes[self.begin..self.start]
     }
 }

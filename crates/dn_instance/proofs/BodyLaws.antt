@@ -1,8 +1,6 @@
 -- Lemmas on taking one row into a body, and on a body of one kind as a body of any kind.
-use Rattle.std.proofs.Common.{◌≡◌, ℤ, List, [], ◌∷◌, ◌++◌, Bool, true, not, int_lt, ◌&&◌, IsTrue, ◌↔◌, Option, Some, Result, Err, OnOk, OnErr, refl, sym, ap, ◌∙◌, subst, Vec, Global, is_some, int_cmp, ◌^◌, pos, arith, inl, inr, ◌<◌, filter_map, length-append, ℕ, length}
+use Rattle.std.proofs.Common.{◌≡◌, ℤ, List, [], ◌∷◌, ◌++◌, Bool, true, not, int_lt, ◌&&◌, IsTrue, ◌↔◌, Option, Some, Result, Err, OnOk, OnErr, refl, sym, ap, ◌∙◌, subst, Vec, Global, ◌^◌, pos, arith, inl, inr, ◌<◌, filter_map, length-append, ℕ, length}
 use Rattle.std.proofs.lemmas.Result.{on_err_weaker, on_ok_weaker}
-use Rattle.std.specs.BTreeMap.{is_at, insert_entry}
-use Rattle.std.specs.Map.{lookup}
 use Rattle.dn_line.specs.Faults.{first_fault}
 use Rattle.dn_line.specs.declared.code.Code.{Code}
 use Rattle.dn_line.specs.declared.code.Code.TheVariants.{NodeOutOfRange, LowAboveCap, RepeatedNode}
@@ -13,10 +11,10 @@ use Rattle.dn_line.specs.declared.line.Line.TheVariants as Item
 use Rattle.dn_line.specs.declared.row.Row.{Row}
 use Rattle.dn_arc.specs.Kinds.{lengths, capacities, costs, ArcKind}
 use Rattle.dn_arc.specs.State.Bundles.{BundleFacts, meant}
-use Rattle.dn_nodes.specs.State.Nodes.{Nodes}
+use Rattle.dn_nodes.specs.State.Nodes.{Gains, Nodes, is_known}
 use Rattle.dn_table.specs.State.Tables.{AreArcs, GraphNeedsMore, TableLists, Stays}
 use Rattle.dn_instance.specs.Items.{arcs_of, length_arc_in, cap_arc_in, cost_arc_in, Problem, problem_of, point_in, by_key}
-use Rattle.dn_instance.specs.TextFaults.{is_companion, item_tests}
+use Rattle.dn_instance.specs.TextFaults.{has_point, is_companion, item_tests}
 use Rattle.dn_instance.specs.State.Bodies.{Awaits, list_body, IsArcOfRow, Keeps, TookRow, ids_body, pairs_body, points_body, table_body, TableHolds, TakerFacts, Counts, TakesRows, TookRows}
 use Rattle.dn_instance.specs.State.ItemFaults.{AnswersFault, arc_fault, id_fault, in_graph, pair_fault, point_fault}
 use Rattle.dn_instance.specs.State.RowRuns.{counted_line, row_items}
@@ -45,7 +43,7 @@ use Rattle.dn_instance.proofs.FirstFaults.{none_first}
 use Rattle.dn_instance.proofs.MapLaws.{by_key_push, one_more_key, found_by_key, points_named}
 use Rattle.dn_instance.proofs.ItemSteps.{problem_all}
 use Rattle.std.proofs.lemmas.Bool.{not-false}
-use Rattle.dn_instance.proofs.MarksLaws.{on_ok_from}
+use Rattle.dn_instance.proofs.MarksLaws.{map_gains, on_ok_from}
 use Rattle.dn_line.specs.declared.row_block.RowLine.{RowLine}
 use Rattle.dn_instance.specs.State.TextParts.{AnyBody, BodyHolds, any_body, body_kind, max_body, min_body, sp_body}
 use Rattle.dn_instance.specs.declared.body.Body.TheVariants as Bodies
@@ -124,29 +122,31 @@ pair_faults before q p h k = simp (h, ap is_companion k, and-true)
 
 -- memory runs out only at a point of a new ID
 pub points_took : (nodes : ℤ) (points points' : Nodes (ℤ × ℤ)) (row : Row) (r : Result (Unit {0}) ItemFault)
-    (before : List Line)
-    → AnswersFault r (point_fault (is_some (lookup (is_at (int_cmp row.first)) points.entries)) row.first)
-    → OnOk r (points'.entries ≡ insert_entry int_cmp points.entries row.first (row.second, row.third))
+    (before : List Line) → AnswersFault r (point_fault (is_known points row.first) row.first)
+    → OnOk r (Gains points row.first (Some (row.second, row.third)) points')
     → Awaits points_body nodes points before (counted_line Kinds.Co row ∷ [])
     → TookRow points_body (counted_line Kinds.Co) before points' row r
 points_took nodes points points' row r before ans ok a =
     let id = row.first in
     let i = counted_line Kinds.Co row in
     let es = filter_map point_in before in
-    let found = is_some (lookup (is_at (int_cmp id)) (by_key es)) in
-    let more = grown point_in before i (id, (row.second, row.third)) refl in
+    let known = a.holds.known_are id in
     record {
       answer = record {
-        fault =
-            rw (a.problem_is, ap is_companion a.kind_is, and-true, and-true, ← points_named id before)
-            (rw (a.holds, found_by_key) at ans);
+        fault = rw (a.problem_is, ap is_companion a.kind_is, and-true, and-true, ← known) ans;
         memory = λ out.
-            let one = none_first (not (int_lt (pos 0) id)) NodeOutOfRange _ (rw (out, a.holds) at ans) in
-            let new = one_more_key id (row.second, row.third) (by_key es) (none_first found RepeatedNode _ one.1).0 in
+            let one = none_first (not (int_lt (pos 0) id)) NodeOutOfRange _ (rw out at ans) in
+            let once = (none_first (is_known points id) RepeatedNode _ one.1).0 in
+            let new =
+            one_more_key id (row.second, row.third) (by_key es)
+            (found_by_key id es ∙ points_named id before ∙ sym known ∙ once) in
             entries_more before a.problem i Kinds.Co a.problem_is a.kind_is
-            (rw (more, by_key_push) (omega (arith, new)));
+            (rw (grown point_in before i (id, (row.second, row.third)) refl, by_key_push) (omega (arith, new)));
       };
-      holds = on_ok_weaker r (λ e. rw (more, by_key_push, ← a.holds) e) ok;
+      holds =
+          on_ok_weaker r (λ gains.
+          map_gains point_in has_point before i points points' id (Some (row.second, row.third)) refl (λ q. refl) gains
+          a.holds) ok;
     }
 
 module _ {B Arc : Type 0} (text : Kind) (arc_in : Line → Option ((ℤ × ℤ) × Arc)) (b : BundleFacts B Arc) where

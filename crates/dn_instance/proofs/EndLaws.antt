@@ -66,7 +66,7 @@ module _ (h : Marks) (items : List Line) (marks : MarksHold h items) (nodes : â„
       _,
       refl,
       (
-        marks.supplies_are,
+        marks.supplies.entries_are,
         stands_as costs (Î» (x : CurveNumbers). listed One x.units x.cost x.steps) t u (arcs_of cost_arc_in items)
             s.rising s.kept k.lists_them,
       ),
@@ -84,7 +84,7 @@ module _ (h : Marks) (items : List Line) (marks : MarksHold h items) (nodes : â„
   )
   made (Bodies.Ss ids) (Bodies.Ss new) k s e = (refl, (_, refl, rw s k))
   made (Bodies.P2p pairs) (Bodies.P2p new) k s e = (refl, (_, refl, rw s k))
-  made (Bodies.Co points) (Bodies.Co new) k s e = (refl, (_, refl, rw s k))
+  made (Bodies.Co points) (Bodies.Co new) k s e = (refl, (_, refl, rw s k.entries_are))
   made _ _ k s e = absurd s
 
 end_is : (t : TextSoFar) (items : List Line) (kind : Kind) (lacks few : Bool) â†’ HasRead t items

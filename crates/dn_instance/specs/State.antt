@@ -2,7 +2,6 @@ pub mod Parts
 pub mod InstanceEntries
 pub mod ItemFaults
 pub mod ArcTakes
-pub mod NodeTakes
 pub mod RowRuns
 pub mod Bodies
 pub mod TextParts

@@ -18,7 +18,7 @@ use std::marker::Model;
 pub struct Held {
     nodes: i64,
     lines: i64,
-    // The flows other than 0 of a `min` text.
+    // The nodes with an `n` line of a `min` text. One whose flow is 0 has no value.
     supplies: NodeMap<i64>,
     // The source and the sink of a `max` text.
     terminals: (i64, i64),

@@ -1,16 +1,14 @@
 // Takes items other than arcs as they arrive.
-ghost use Rattle.std.specs.Prelude.{◌≡◌, ◌≤◌, ◌≤ℤ◌, pos, vec_capacity, vec_len, [], ◌∷◌, ◌++◌, OnOk, OnErr, Some, None, is_some, Err};
-ghost use Rattle.std.specs.BTreeMap.{insert_entry};
-ghost use Rattle.std.specs.Ordering.{int_cmp};
-ghost use Rattle.dn_nodes.specs.State.Nodes.{get};
-ghost use Rattle.dn_instance.specs.State.NodeTakes.{GainsIdle, GainsNode, is_named, with_flow};
+ghost use Rattle.std.specs.Prelude.{◌≡◌, ◌≤◌, ◌≤ℤ◌, pos, vec_capacity, vec_len, [], ◌∷◌, ◌++◌, OnOk, OnErr, Some, None, cond, Err};
+ghost use Rattle.std.specs.Ordering.{int_eq};
+ghost use Rattle.dn_line.specs.declared.code.Code.TheVariants.{RepeatedNode};
+ghost use Rattle.dn_nodes.specs.State.Nodes.{Gains, is_known};
 ghost use Rattle.dn_instance.specs.State.ItemFaults.{AnswersFault, supply_fault, terminal_fault, id_fault, pair_fault, point_fault};
 
 use crate::arcs::in_graph;
 use crate::refusal::ItemFault;
 use dn_line::Code;
 use dn_nodes::NodeMap;
-use std::collections::BTreeSet;
 
 // Takes the node of a `max` node line. `own` is the terminal of the letter of this line, and `other` is the other
 // terminal. On a fault, nothing changes.
@@ -72,77 +70,55 @@ pub(crate) fn push_query(pairs: &mut Vec<(i64, i64)>, pair: (i64, i64)) -> Resul
     }
 }
 
+// Takes a node with an `n` or a `v` line, and its value if it has one. On a fault, nothing changes.
+fn insert_node<V: Drop>(map: &mut NodeMap<V>, id: &i64, value: Option<V>) -> Result<(), ItemFault>
+    requires { pos 0 ≤ℤ id.now }
+    ensures answer { AnswersFault result (cond (is_known map.old id.now) (Some RepeatedNode) None) }
+    ensures ok { OnOk result (Gains map.old id.now value map.new) }
+    ensures err { OnErr result (map.new ≡ map.old) }
+{
+    if map.is_known(id) {
+        return Err(ItemFault::Text(Code::RepeatedNode));
+    }
+    match map.insert(id, value) {
+        Ok(()) => Ok(()),
+        Err(_) => Err(ItemFault::Memory),
+    }
+}
+
 // Takes the point of a `v` line of a `co` text. On a fault, nothing changes.
 pub(crate) fn insert_point(
     points: &mut NodeMap<(i64, i64)>,
     id: &i64,
     at: (i64, i64),
 ) -> Result<(), ItemFault>
-    ensures answer { AnswersFault result (point_fault (is_some (get points.old id.now)) id.now) }
-    ensures ok { OnOk result (points.new.entries ≡ insert_entry int_cmp points.old.entries id.now at) }
-    ensures err { OnErr result (points.new.entries ≡ points.old.entries) }
+    ensures answer { AnswersFault result (point_fault (is_known points.old id.now) id.now) }
+    ensures ok { OnOk result (Gains points.old id.now (Some at) points.new) }
+    ensures err { OnErr result (points.new ≡ points.old) }
 {
     if *id <= 0 {
         return Err(ItemFault::Text(Code::NodeOutOfRange));
     }
-    if points.get(id).is_some() {
-        return Err(ItemFault::Text(Code::RepeatedNode));
-    }
-    match points.insert(*id, at) {
-        Ok(()) => Ok(()),
-        Err(_) => Err(ItemFault::Memory),
-    }
+    insert_node(points, id, Some(at))
 }
 
-// Takes the flow of a `min` node line. Puts a flow other than 0 into `supplies`, and a node whose flow is 0 into
-// `idle`. On a fault, nothing changes.
+// Takes the flow of a `min` node line. A node whose flow is 0 has no value. On a fault, nothing changes.
 pub(crate) fn insert_supply(
     supplies: &mut NodeMap<i64>,
-    idle: &mut BTreeSet<i64>,
     nodes: &i64,
     id: &i64,
     flow: &i64,
 ) -> Result<(), ItemFault>
-    ensures answer { AnswersFault result (supply_fault nodes.now (is_named supplies.old idle.old id.now) id.now) }
-    ensures supplies { OnOk result (supplies.new.entries ≡ with_flow supplies.old.entries id.now flow.now) }
-    ensures idle { OnOk result (GainsIdle idle.old idle.new id.now flow.now) }
-    ensures err { OnErr result ((supplies.new.entries ≡ supplies.old.entries) × (idle.new.keys ≡ idle.old.keys)) }
+    ensures answer { AnswersFault result (supply_fault nodes.now (is_known supplies.old id.now) id.now) }
+    ensures ok { OnOk result (Gains supplies.old id.now (cond (int_eq flow.now (pos 0)) None (Some flow.now))
+        supplies.new) }
+    ensures err { OnErr result (supplies.new ≡ supplies.old) }
 {
     if !in_graph(nodes, id) {
         return Err(ItemFault::Text(Code::NodeOutOfRange));
     }
-    if supplies.get(id).is_some() || idle.contains(id) {
-        return Err(ItemFault::Text(Code::RepeatedNode));
-    }
     if *flow == 0 {
-        put_idle(idle, id)
-    } else {
-        put_flow(supplies, id, flow)
+        return insert_node(supplies, id, None);
     }
-}
-
-// Adds the flow, which is not 0, of a node without an earlier line. If an allocation fails, nothing changes.
-fn put_flow(supplies: &mut NodeMap<i64>, id: &i64, flow: &i64) -> Result<(), ItemFault>
-    requires some { pos 0 ≤ℤ id.now }
-    requires none { get supplies.old id.now ≡ None }
-    ensures ok { OnOk result (supplies.new.entries ≡ insert_entry int_cmp supplies.old.entries id.now flow.now) }
-    ensures err { OnErr result (supplies.new.entries ≡ supplies.old.entries) }
-    ensures memory { OnErr result (result ≡ Err ItemFault.Memory) }
-{
-    match supplies.insert(*id, *flow) {
-        Ok(()) => Ok(()),
-        Err(_) => Err(ItemFault::Memory),
-    }
-}
-
-// Adds a node whose flow is 0. If an allocation fails, nothing changes.
-fn put_idle(idle: &mut BTreeSet<i64>, id: &i64) -> Result<(), ItemFault>
-    ensures ok { OnOk result (GainsNode idle.old idle.new id.now) }
-    ensures err { OnErr result (idle.new.keys ≡ idle.old.keys) }
-    ensures memory { OnErr result (result ≡ Err ItemFault.Memory) }
-{
-    match idle.insert(*id) {
-        Ok(_) => Ok(()),
-        Err(_) => Err(ItemFault::Memory),
-    }
+    insert_node(supplies, id, Some(*flow))
 }

@@ -11,14 +11,12 @@ use crate::refusal::ItemFault;
 use dn_line::{Kind, Letter, Row};
 use dn_nodes::NodeMap;
 use std::alloc::Global;
-use std::collections::BTreeSet;
 
 // What the `n` lines so far make. A text of a kind without such lines has none of these.
 #[derive(Drop)]
 pub(crate) struct Marks {
+    // The nodes with an `n` line. One whose flow is 0 has no value.
     pub(crate) supplies: NodeMap<i64>,
-    // The nodes whose `n` lines have flow 0. A second `n` line of such a node is a fault, too.
-    pub(crate) idle: BTreeSet<i64>,
     pub(crate) source: Option<i64>,
     pub(crate) sink: Option<i64>,
 }
@@ -30,7 +28,6 @@ impl Marks {
     {
         Marks {
             supplies: NodeMap::new(alloc),
-            idle: BTreeSet::new(alloc),
             source: None,
             sink: None,
         }
@@ -41,7 +38,7 @@ impl Marks {
         ensures taken { TakesMark nodes.now self.old self.new (Supply id.now flow.now) result }
         ensures unchanged { OnErr result ((items : List Line) → MarksHold self.old items → MarksHold self.new items) }
     {
-        insert_supply(&mut self.supplies, &mut self.idle, nodes, id, flow)
+        insert_supply(&mut self.supplies, nodes, id, flow)
     }
 
     // Takes a `max` node line, or returns its fault.

@@ -1,5 +1,5 @@
 // Reads a whole text from memory or from a source.
-ghost use Rattle.std.specs.Prelude.{◌≡◌, ◌++◌, [], ℕ, List, Bool, true, false, Err, IfErr, IfOk, IfSome, IsTrue, None, OnErr, OnOk};
+ghost use Rattle.std.specs.Prelude.{◌≡◌, ◌++◌, [], ℕ, List, Bool, true, false, Err, IfErr, IfOk, IsTrue, None, OnErr, OnOk};
 ghost use Rattle.dn_instance.specs.State.FedSources.{IsFedAll};
 ghost use Rattle.dn_instance.specs.State.ReaderResults.{Outcome, refusal_of};
 ghost use Rattle.dn_instance.specs.State.ReaderStates.{ReaderAt};
@@ -15,7 +15,7 @@ use std::alloc::Global;
 // How many pulls may give bytes before a source counts as endless.
 const PULLS: u64 = 1 << 40;
 
-// How many bytes a source is asked for at once.
+// How many bytes a source is asked for at once, at most.
 const PIECE: usize = 4096;
 
 /// Reads a text from memory, and returns its parsed instance.
@@ -154,13 +154,11 @@ fn feed_all<S: Source, K: Keep>(
     ensures refusal { IfErr result IsOfReading }
     ensures left { SourceLeft S.source source.old source.new result }
 {
-    let mut room = [0u8; PIECE];
     for _ in 0..PULLS {
-        let used = match source.pull(&mut room) {
-            Ok(used) => used,
-            Err(_) => return Err(Refusal::Read),
-        };
-        let piece = &room[..used];
+        if let Err(_) = source.pull(PIECE) {
+            return Err(Refusal::Read);
+        }
+        let piece = source.piece();
         if piece.is_empty() {
             return Ok(());
         }

@@ -1,2 +1,1 @@
 pub mod SomeVerdict
-pub mod ExampleLaws

@@ -1,3 +1,2 @@
 pub mod BundleExamples
 pub mod TextExamples
-pub mod DifferenceExamples

@@ -1,3 +1,2 @@
 // First differences.
-pub mod examples;
 pub mod laws;

@@ -1,188 +1,228 @@
 -- Values by node: what a look-up finds, and what an insertion changes.
-use Rattle.std.proofs.Common.{inl, inr, ◌≡◌, ℕ, zero, suc, ◌+◌, ◌-◌, ◌*◌, ◌<◌, ◌≤◌, ℤ, List, [], ◌∷◌, ◌++◌, Option, Some, None, length, slice_get, get_or, refl, sym, ap, ◌∙◌, arith, int_cmp, length-append}
+use Rattle.std.proofs.Common.{inl, inr, ◌≡◌, ℕ, zero, suc, ◌+◌, ◌*◌, ◌≤◌, ℤ, List, [], ◌∷◌, ◌++◌, Bool, false, ◌||◌, Option, Some, None, is_some, length, slice_get, refl, sym, ap, ◌∙◌, arith, Less, Greater, int_cmp, length-append}
 use Rattle.std.specs.BTreeMap.{insert_entry}
-use Rattle.std.specs.Map.{lookup}
+use Rattle.std.specs.List.{AllByRecursion, list_any}
+use Rattle.std.specs.Map.{keys_of, lookup}
 use Rattle.std.proofs.lemmas.Bool.{cases_Bool}
-use Rattle.std.proofs.lemmas.Option.{slice_get-get_or}
 use Rattle.dn_arc.proofs.CanonsLaws.{by_cmp}
-use Rattle.dn_nodes.specs.State.Nodes.{at, Rises}
-use Rattle.dn_nodes.specs.State.Links.{value_at, valued, AreWithin, IsShort}
-use Rattle.dn_nodes.proofs.KeyLaws.{Above, rises_head, rises_tail, rises_none, rises_cons, insert_rises}
+use Rattle.dn_nodes.specs.State.Nodes.{Gains, Nodes, Rises, at, is_known, with_entry}
+use Rattle.dn_nodes.specs.State.Links.{linked, with_value, value_at, valued, AreWithin, IsShort}
+use Rattle.dn_nodes.proofs.KeyLaws.{Above, above_none, above_trans, at_is, at_self, insert_first, insert_rises, rises_cons, rises_head, rises_none, rises_tail}
 
-pub more_length : (es : List (ℤ × ℕ)) (id : ℤ) (n : ℕ) → lookup (at id) es ≡ None
-    → length (insert_entry int_cmp es id n) ≡ length es + 1
-more_length [] id n none = refl
-more_length (e ∷ es) id n none =
+more_length : {X : Type 0} (es : List (ℤ × X)) (id : ℤ) (x : X) → lookup (at id) es ≡ None
+    → length (insert_entry int_cmp es id x) ≡ length es + 1
+more_length [] id x none = refl
+more_length (e ∷ es) id x none =
     by_cmp id e.0 (λ c lt. rw c (omega arith)) (λ c eq. cc (rw c at none))
-    (λ c gt. rw c (omega (arith, more_length es id n (rw c at none))))
+    (λ c gt. rw c (omega (arith, more_length es id x (rw c at none))))
 
 -- a list of links stays short if one more node has a link
-pub short_more : (es now : List (ℤ × ℕ)) (id : ℤ) (n places : ℕ) → now ≡ insert_entry int_cmp es id n
-    → lookup (at id) es ≡ None → places ≤ 8 * (length es + 17) → IsShort places (length now)
-short_more es now id n places is none most = omega (arith, most, ap length is, more_length es id n none)
+pub short_more : (es now : List (ℤ × ℕ)) (id : ℤ) (n places count more : ℕ) → now ≡ insert_entry int_cmp es id n
+    → lookup (at id) es ≡ None → places ≤ 8 * (length es + 17) → count ≤ length es → more ≤ count + 1
+    → IsShort places (length now) × (more ≤ length now)
+short_more es now id n places count more is none most few one =
+    let long = ap length is ∙ more_length es id n none in
+    (omega (arith, most, long), omega (arith, few, one, long))
+
+-- ---- which nodes there are
+
+-- a node is known exactly if it has a link
+pub known_is : {X : Type 0} (id : ℤ) (es : List (ℤ × X)) → is_some (lookup (at id) es) ≡ list_any (at id) (keys_of es)
+known_is id [] = refl
+known_is id (e ∷ es) = elim (cases_Bool (at id e.0)) [ inl t ↦ rw t refl | inr t ↦ rw t (known_is id es) ]
+
+no_link : {X : Type 0} (id : ℤ) (es : List (ℤ × X)) → list_any (at id) (keys_of es) ≡ false
+    → lookup (at id) es ≡ None
+no_link id es h = none_is (lookup (at id) es) (known_is id es ∙ h)
+  where
+    none_is : {X : Type 0} (o : Option X) → is_some o ≡ false → o ≡ None
+    none_is None e = refl
+    none_is (Some x) e = cc
+
+or_twice : (a b : Bool) → (a || b) ≡ (a || (a || b))
+or_twice a b = grind arith
+
+or_swap : (a b c : Bool) → (a || (b || c)) ≡ (b || (a || c))
+or_swap a b c = grind arith
+
+pub known_more : {X : Type 0} (q id : ℤ) (x : X) (es : List (ℤ × X))
+    → list_any (at q) (keys_of (insert_entry int_cmp es id x)) ≡ (at q id || list_any (at q) (keys_of es))
+known_more q id x [] = refl
+known_more q id x (e ∷ es) =
+    by_cmp id e.0 (λ c lt. rw c refl) (λ c eq. rw (c, eq) (or_twice (at q e.0) (list_any (at q) (keys_of es))))
+    (λ c gt. rw (c, known_more q id x es) (or_swap (at q e.0) (at q id) (list_any (at q) (keys_of es))))
+
+-- ---- the values of links
 
 module _ {V : Type 0} where
-  -- the value that a link leads to
-  pub value_is : (vs : List V) (l : ℕ) (x : V) → (0 < l) × (l ≤ length vs) → x ≡ get_or vs (l - 1) x
-      → value_at vs l ≡ Some x
-  value_is vs zero x w is = absurd (omega (arith, w.0))
-  value_is vs (suc i) x w is =
-      let one : suc i - 1 ≡ i = omega arith in
-      slice_get-get_or vs i x (omega (arith, w.1)) ∙ ap Some (sym (rw one at is))
+  above_first : (k l : ℤ) (o : Option V) (rest : List (ℤ × V)) → int_cmp k l ≡ Less → Above k rest
+      → Above k (with_value l o ++ rest)
+  above_first k l None rest c a = a
+  above_first k l (Some x) rest c a = (c, a)
 
-  has_value : (vs : List V) (l : ℕ) → (0 < l) × (l ≤ length vs) → (x : V) × (value_at vs l ≡ Some x)
-  has_value vs zero w = absurd (omega (arith, w.0))
-  has_value [] (suc i) w = absurd (omega (arith, w.1))
-  has_value (v ∷ vs) (suc zero) w = (v, refl)
-  has_value (v ∷ vs) (suc (suc i)) w = has_value vs (suc i) (omega arith, omega (arith, w.1))
+  above_valued : (k : ℤ) (es : List (ℤ × ℕ)) (vs : List V) → Above k es → Above k (valued es vs)
+  above_valued k [] vs a = tt
+  above_valued k (e ∷ es) vs a =
+      above_first k e.0 (value_at vs e.1) (valued es vs) a.0 (above_valued k es vs a.1)
 
-  -- a link that a look-up finds leads to a value
-  pub within_at : (id : ℤ) (es : List (ℤ × ℕ)) (vs : List V) (l : ℕ) → AreWithin es vs → lookup (at id) es ≡ Some l
-      → (0 < l) × (l ≤ length vs)
-  within_at id [] vs l w h = cc
-  within_at id (e ∷ es) vs l w h = elim (cases_Bool (at id e.0)) [
+  rises_first : (l : ℤ) (o : Option V) (rest : List (ℤ × V)) → Above l rest → Rises rest
+      → Rises (with_value l o ++ rest)
+  rises_first l None rest a r = r
+  rises_first l (Some x) rest a r = rises_cons (l, x) rest a r
+
+  pub rises_valued : (es : List (ℤ × ℕ)) (vs : List V) → Rises es → Rises (valued es vs)
+  rises_valued [] vs r = rises_none V
+  rises_valued (e ∷ es) vs r =
+      rises_first e.0 (value_at vs e.1) (valued es vs) (above_valued e.0 es vs (rises_head e es r))
+      (rises_valued es vs (rises_tail e es r))
+
+  first_looked : (k : ℤ) (o : Option V) (rest : List (ℤ × V)) → Above k rest
+      → lookup (at k) (with_value k o ++ rest) ≡ o
+  first_looked k None rest a = above_none k rest a
+  first_looked k (Some x) rest a = rw (at_self k) refl
+
+  later_looked : (k l : ℤ) (o : Option V) (rest : List (ℤ × V)) → at k l ≡ false
+      → lookup (at k) (with_value l o ++ rest) ≡ lookup (at k) rest
+  later_looked k l None rest h = refl
+  later_looked k l (Some x) rest h = rw h refl
+
+  -- the value of a node is that at its link
+  pub looked : (id : ℤ) (es : List (ℤ × ℕ)) (vs : List V) → Rises es
+      → lookup (at id) (valued es vs) ≡ linked vs (lookup (at id) es)
+  looked id [] vs r = refl
+  looked id (e ∷ es) vs r = elim (cases_Bool (at id e.0)) [
     | inl t ↦
-        let same : e.1 ≡ l = cc (rw t at h) in
-        rw same at w.0
-    | inr t ↦ within_at id es vs l w.1 (rw t at h)
+        let same = at_is id e.0 t in
+        rw (same, at_self e.0)
+        (first_looked e.0 (value_at vs e.1) (valued es vs) (above_valued e.0 es vs (rises_head e es r)))
+    | inr t ↦
+        rw t (later_looked id e.0 (value_at vs e.1) (valued es vs) t ∙ looked id es vs (rises_tail e es r))
   ]
 
-  -- the entries of one more link
-  pub valued_cons : (e : ℤ × ℕ) (es : List (ℤ × ℕ)) (vs : List V) (x : V) → value_at vs e.1 ≡ Some x
-      → valued (e ∷ es) vs ≡ (e.0, x) ∷ valued es vs
-  valued_cons e es vs x is = rw is refl
+  -- ---- one more link
 
-  pub found : (id : ℤ) (es : List (ℤ × ℕ)) (vs : List V) (l : ℕ) (x : V) → AreWithin es vs
-      → lookup (at id) es ≡ Some l → value_at vs l ≡ Some x → lookup (at id) (valued es vs) ≡ Some x
-  found id [] vs l x w h is = cc
-  found id (e ∷ es) vs l x w h is =
-      let v = has_value vs e.1 w.0 in
-      let cons = valued_cons e es vs v.0 v.1 in
-      elim (cases_Bool (at id e.0)) [
-        | inl t ↦
-            let same : e.1 ≡ l = cc (rw t at h) in
-            let at_l : Some v.0 ≡ Some x = sym v.1 ∙ rw (← same) at is in
-            rw (cons, t) at_l
-        | inr t ↦ rw (cons, t) (found id es vs l x w.1 (rw t at h) is)
-      ]
+  -- the links lead to the same values in both lists
+  abbrev pub Agree : List V → List V → List (ℤ × ℕ) → Type 0
+  Agree vs ws es = AllByRecursion (λ (e : ℤ × ℕ). value_at ws e.1 ≡ value_at vs e.1) es
 
-  pub absent : (id : ℤ) (es : List (ℤ × ℕ)) (vs : List V) → AreWithin es vs → lookup (at id) es ≡ None
-      → lookup (at id) (valued es vs) ≡ None
-  absent id [] vs w h = refl
-  absent id (e ∷ es) vs w h =
-      let v = has_value vs e.1 w.0 in
-      elim (cases_Bool (at id e.0)) [
-        | inl t ↦ cc (rw t at h)
-        | inr t ↦ rw (valued_cons e es vs v.0 v.1, t) (absent id es vs w.1 (rw t at h))
-      ]
+  agree_valued : (es : List (ℤ × ℕ)) (vs ws : List V) → Agree vs ws es → valued es ws ≡ valued es vs
+  agree_valued [] vs ws a = refl
+  agree_valued (e ∷ es) vs ws a = rw (a.0, agree_valued es vs ws a.1) refl
 
-  above_valued : (k : ℤ) (es : List (ℤ × ℕ)) (vs : List V) → AreWithin es vs → Above k es → Above k (valued es vs)
-  above_valued k [] vs w a = tt
-  above_valued k (e ∷ es) vs w a =
-      let v = has_value vs e.1 w.0 in
-      rw (valued_cons e es vs v.0 v.1) (a.0, above_valued k es vs w.1 a.1)
+  first_entry : (k : ℤ) (o : Option V) (rest : List (ℤ × V)) → Above k rest
+      → with_value k o ++ rest ≡ with_entry rest k o
+  first_entry k None rest a = refl
+  first_entry k (Some v) rest a = sym (insert_first rest k v a)
 
-  pub rises_valued : (es : List (ℤ × ℕ)) (vs : List V) → AreWithin es vs → Rises es → Rises (valued es vs)
-  rises_valued [] vs w r = rises_none V
-  rises_valued (e ∷ es) vs w r =
-      let v = has_value vs e.1 w.0 in
-      rw (valued_cons e es vs v.0 v.1)
-      (rises_cons (e.0, v.0) (valued es vs) (above_valued e.0 es vs w.1 (rises_head e es r))
-      (rises_valued es vs w.1 (rises_tail e es r)))
+  later_entry : (j k : ℤ) (p o : Option V) (rest : List (ℤ × V)) → int_cmp k j ≡ Greater
+      → with_value j p ++ with_entry rest k o ≡ with_entry (with_value j p ++ rest) k o
+  later_entry j k None o rest c = refl
+  later_entry j k (Some x) None rest c = refl
+  later_entry j k (Some x) (Some v) rest c = rw c refl
 
-  pub valued_length : (es : List (ℤ × ℕ)) (vs : List V) → AreWithin es vs → length (valued es vs) ≡ length es
-  valued_length [] vs w = refl
-  valued_length (e ∷ es) vs w =
-      let v = has_value vs e.1 w.0 in
-      rw (valued_cons e es vs v.0 v.1) (ap suc (valued_length es vs w.1))
+  pub valued_more : (es : List (ℤ × ℕ)) (vs ws : List V) (id : ℤ) (n : ℕ) → Agree vs ws es → Rises es
+      → lookup (at id) es ≡ None
+      → valued (insert_entry int_cmp es id n) ws ≡ with_entry (valued es vs) id (value_at ws n)
+  valued_more [] vs ws id n a r none = first_entry id (value_at ws n) [] tt
+  valued_more (e ∷ es) vs ws id n a r none =
+      by_cmp id e.0
+      (λ c lt. (let above : Above id (e ∷ es) = (c, above_trans id e.0 es c (rises_head e es r)) in
+      rw (c, agree_valued (e ∷ es) vs ws a)
+      (first_entry id (value_at ws n) (valued (e ∷ es) vs) (above_valued id (e ∷ es) vs above))))
+      (λ c eq. cc (rw c at none))
+      (λ c gt. rw (c, a.0, valued_more es vs ws id n a.1 (rises_tail e es r) (rw c at none))
+      (later_entry e.0 id (value_at vs e.1) (value_at ws n) (valued es vs) c))
 
   -- ---- one more value
 
   push_length : (vs : List V) (v : V) → length (vs ++ v ∷ []) ≡ length vs + 1
   push_length vs v = length-append vs (v ∷ [])
 
-  push_at : (vs : List V) (v : V) (l : ℕ) (x : V) → value_at vs l ≡ Some x → value_at (vs ++ v ∷ []) l ≡ Some x
-  push_at vs v zero x is = cc
-  push_at [] v (suc i) x is = cc
-  push_at (u ∷ vs) v (suc zero) x is = is
-  push_at (u ∷ vs) v (suc (suc i)) x is = push_at vs v (suc i) x is
+  push_at : (vs : List V) (v : V) (l : ℕ) → l ≤ length vs + 1 → value_at (vs ++ v ∷ []) l ≡ value_at vs l
+  push_at vs v zero h = refl
+  push_at vs v (suc zero) h = refl
+  push_at [] v (suc (suc i)) h = absurd (omega (arith, h))
+  push_at (u ∷ vs) v (suc (suc zero)) h = refl
+  push_at (u ∷ vs) v (suc (suc (suc i))) h = push_at vs v (suc (suc i)) (omega (arith, h))
 
-  push_last : (vs : List V) (v : V) → slice_get (vs ++ v ∷ []) (length vs) ≡ Some v
-  push_last [] v = refl
-  push_last (u ∷ vs) v = push_last vs v
+  push_agree : (es : List (ℤ × ℕ)) (vs : List V) (v : V) → AreWithin es vs → Agree vs (vs ++ v ∷ []) es
+  push_agree [] vs v w = tt
+  push_agree (e ∷ es) vs v w = (push_at vs v e.1 w.0, push_agree es vs v w.1)
 
-  pub within_push : (es : List (ℤ × ℕ)) (vs : List V) (v : V) → AreWithin es vs → AreWithin es (vs ++ v ∷ [])
-  within_push [] vs v w = tt
-  within_push (e ∷ es) vs v w = ((w.0.0, omega (arith, w.0.1, push_length vs v)), within_push es vs v w.1)
-
-  valued_push : (es : List (ℤ × ℕ)) (vs : List V) (v : V) → AreWithin es vs → valued es (vs ++ v ∷ []) ≡ valued es vs
-  valued_push [] vs v w = refl
-  valued_push (e ∷ es) vs v w =
-      let x = has_value vs e.1 w.0 in
-      valued_cons e es (vs ++ v ∷ []) x.0 (push_at vs v e.1 x.0 x.1)
-      ∙ ap (λ l. (e.0, x.0) ∷ l) (valued_push es vs v w.1)
-      ∙ sym (valued_cons e es vs x.0 x.1)
-
-  -- the links with that of the new value
-  abbrev pub more : List (ℤ × ℕ) → List V → ℤ → List (ℤ × ℕ)
-  more es vs id = insert_entry int_cmp es id (length vs + 1)
-
-  last_value : (vs : List V) (v : V) → value_at (vs ++ v ∷ []) (length vs + 1) ≡ Some v
+  last_value : (vs : List V) (v : V) → value_at (vs ++ v ∷ []) (length vs + 2) ≡ Some v
   last_value vs v =
-      let one : length vs + 1 ≡ suc (length vs) = omega arith in
-      rw one (push_last vs v)
+      let two : length vs + 2 ≡ suc (suc (length vs)) = omega arith in
+      rw two (go vs)
+    where
+      go : (us : List V) → slice_get (us ++ v ∷ []) (length us) ≡ Some v
+      go [] = refl
+      go (u ∷ us) = go us
 
-  pub within_more : (es : List (ℤ × ℕ)) (vs : List V) (v : V) (id : ℤ) (n : ℕ) → AreWithin es vs
-      → (0 < n) × (n ≤ length vs + 1) → AreWithin (insert_entry int_cmp es id n) (vs ++ v ∷ [])
-  within_more [] vs v id n w h = ((h.0, omega (arith, h.1, push_length vs v)), tt)
-  within_more (e ∷ es) vs v id n w h =
-      let new : (0 < n) × (n ≤ length (vs ++ v ∷ [])) = (h.0, omega (arith, h.1, push_length vs v)) in
-      let old = within_push (e ∷ es) vs v w in
+  same_agree : (es : List (ℤ × ℕ)) (vs : List V) → Agree vs vs es
+  same_agree [] vs = tt
+  same_agree (e ∷ es) vs = (refl, same_agree es vs)
+
+  within_more : (es : List (ℤ × ℕ)) (vs ws : List V) (id : ℤ) (n : ℕ) → length vs ≤ length ws → n ≤ length ws + 1
+      → AreWithin es vs → AreWithin (insert_entry int_cmp es id n) ws
+  within_more [] vs ws id n le new w = (new, tt)
+  within_more (e ∷ es) vs ws id n le new w =
+      let old = older (e ∷ es) w in
       by_cmp id e.0 (λ c lt. rw c (new, old)) (λ c eq. rw c (new, old.1))
-      (λ c gt. rw c (old.0, within_more es vs v id n w.1 h))
-
-  pub inserted : (es : List (ℤ × ℕ)) (vs : List V) (id : ℤ) (v : V) → AreWithin es vs → lookup (at id) es ≡ None
-      → valued (more es vs id) (vs ++ v ∷ []) ≡ insert_entry int_cmp (valued es vs) id v
-  inserted es vs id v w none = go es w none
+      (λ c gt. rw c (old.0, within_more es vs ws id n le new w.1))
     where
-      go : (xs : List (ℤ × ℕ)) → AreWithin xs vs → lookup (at id) xs ≡ None
-          → valued (insert_entry int_cmp xs id (length vs + 1)) (vs ++ v ∷ [])
-          ≡ insert_entry int_cmp (valued xs vs) id v
-      go [] h n = valued_cons (id, length vs + 1) [] (vs ++ v ∷ []) v (last_value vs v)
-      go (e ∷ xs) h n =
-          let x = has_value vs e.1 h.0 in
-          let before = valued_cons e xs vs x.0 x.1 in
-          by_cmp id e.0
-          (λ c lt. rw (c, before, c)
-          (valued_cons (id, length vs + 1) (e ∷ xs) (vs ++ v ∷ []) v (last_value vs v)
-          ∙ ap (λ l. (id, v) ∷ l) (valued_push (e ∷ xs) vs v h ∙ before)))
-          (λ c eq. cc (rw c at n))
-          (λ c gt. rw (c, before, c)
-          (valued_cons e (insert_entry int_cmp xs id (length vs + 1)) (vs ++ v ∷ []) x.0 (push_at vs v e.1 x.0 x.1)
-          ∙ ap (λ l. (e.0, x.0) ∷ l) (go xs h.1 (rw c at n))))
+      older : (xs : List (ℤ × ℕ)) → AreWithin xs vs → AreWithin xs ws
+      older [] h = tt
+      older (x ∷ xs) h = (omega (arith, le, h.0), older xs h.1)
 
-  -- a node without a value has no link
-  pub no_link : (id : ℤ) (es : List (ℤ × ℕ)) (vs : List V) → AreWithin es vs → lookup (at id) (valued es vs) ≡ None
-      → lookup (at id) es ≡ None
-  no_link id es vs w none = by_cases (lookup (at id) es) refl
-    where
-      by_cases : (o : Option ℕ) → lookup (at id) es ≡ o → lookup (at id) es ≡ None
-      by_cases None e = e
-      by_cases (Some l) e =
-          let x = has_value vs l (within_at id es vs l w e) in
-          cc (sym none ∙ found id es vs l x.0 w e x.1)
+  -- what holds of links and values
+  abbrev pub Fit : List (ℤ × ℕ) → List V → Type 0
+  Fit es vs = Rises es × AreWithin es vs × (length (valued es vs) ≡ length vs)
 
-  -- the links and the values after an insertion
-  module _ (es now : List (ℤ × ℕ)) (vs values : List V) (id : ℤ) (v : V) (n : ℕ) (last : n ≡ length vs + 1)
-      (links : now ≡ insert_entry int_cmp es id n) (pushed : values ≡ vs ++ v ∷ []) (w : AreWithin es vs)
-      (none : lookup (at id) es ≡ None) where
-    pub kept : Rises es → length es ≡ length vs → Rises now × AreWithin now values × (length now ≡ length values)
-    kept r same =
-        rw (links, pushed) (
-          insert_rises es id n r,
-          within_more es vs v id n w (omega (arith, last), omega (arith, last)),
-          omega (arith, more_length es id n none, push_length vs v, same),
+  -- the nodes with these links and values
+  abbrev pub shown : List (ℤ × ℕ) → List V → Nodes V
+  shown es vs = record { entries = valued es vs; known = keys_of es }
+
+  -- a node that is not known has no link
+  pub unlinked : (es : List (ℤ × ℕ)) (vs : List V) (old : Nodes V) (id : ℤ) → shown es vs ≡ old
+      → is_known old id ≡ false → lookup (at id) es ≡ None
+  unlinked es vs old id view new = no_link id es (rw (← view) at new)
+
+  -- a node is inserted, whose link leads to this value, or to none, among the values as they are then
+  module _ (es now : List (ℤ × ℕ)) (vs : List V) (old : Nodes V) (id : ℤ) (view : shown es vs ≡ old) (fit : Fit es vs)
+      (new : is_known old id ≡ false) where
+    none : lookup (at id) es ≡ None
+    none = unlinked es vs old id view new
+
+    gained : (ws : List V) (n : ℕ) → Agree vs ws es → now ≡ insert_entry int_cmp es id n
+        → Gains old id (value_at ws n) (shown now ws)
+    gained ws n agree links =
+        rw (← view, links)
+        (record { entries = valued_more es vs ws id n agree fit.0 none; known = λ q. known_more q id n es })
+
+    -- one without a value
+    pub bare : now ≡ insert_entry int_cmp es id 1 → Gains old id None (shown now vs) × Fit now vs
+    bare links =
+        let more = gained vs 1 (same_agree es vs) links in (
+          more,
+          (
+            rw links (insert_rises es id 1 fit.0),
+            rw links (within_more es vs vs id 1 (omega arith) (omega arith) fit.1),
+            ap length more.entries ∙ ap (λ (nodes : Nodes V). length nodes.entries) (sym view) ∙ fit.2,
+          ),
         )
 
-    pub as_inserted : valued now values ≡ insert_entry int_cmp (valued es vs) id v
-    as_inserted = rw (links, pushed, last) (inserted es vs id v w none)
+    -- one with a value
+    pub filled : (ws : List V) (v : V) (n : ℕ) → n ≡ length vs + 2 → now ≡ insert_entry int_cmp es id n
+        → ws ≡ vs ++ v ∷ [] → Gains old id (Some v) (shown now ws) × Fit now ws
+    filled ws v n last links pushed =
+        let leads : value_at ws n ≡ Some v = rw (pushed, last) (last_value vs v) in
+        let more = rw leads at (gained ws n (rw pushed (push_agree es vs v fit.1)) links) in
+        let long : length ws ≡ length vs + 1 = ap length pushed ∙ push_length vs v in
+        let one = more_length (valued es vs) id v (looked id es vs fit.0 ∙ ap (linked vs) none) in (
+          more,
+          (
+            rw links (insert_rises es id n fit.0),
+            rw links (within_more es vs ws id n (omega (arith, long)) (omega (arith, long, last)) fit.1),
+            omega (arith, ap length (rw (← view) at more.entries), one, fit.2, long),
+          ),
+        )

@@ -1,6 +1,5 @@
 // Which value each node leads to.
 ghost use Rattle.std.specs.Prelude.{◌≡◌, ◌<◌, ◌≤◌, ◌+◌, ◌++◌, ◌≤ℤ◌, ℕ, ℤ, pos, List, [], None, OnOk, OnErr, length, slice_get};
-ghost use Rattle.std.specs.List.{AllByRecursion};
 ghost use Rattle.std.specs.Ordering.{int_cmp};
 ghost use Rattle.std.specs.Map.{lookup};
 ghost use Rattle.std.specs.BTreeMap.{insert_entry};
@@ -23,11 +22,12 @@ const DENSE: usize = 8;
 pub(crate) struct Links {
     links: Vec<usize>,
     above: BTreeMap<i64, usize>,
+    // The number of nodes that have a link.
+    count: usize,
 }
 
 impl Model for Links {
-    ghost use Rattle.std.specs.Prelude.{ℕ, ℤ, pos, List, ◌++◌, ◌<ℤ◌, length};
-    ghost use Rattle.std.specs.List.{AllByRecursion};
+    ghost use Rattle.std.specs.Prelude.{ℕ, ℤ, List, ◌++◌, ◌≤◌, length};
     ghost use Rattle.dn_nodes.specs.State.Links.{direct, AreFar, IsShort};
     ghost use Rattle.dn_nodes.specs.State.Nodes.{Rises};
 
@@ -36,7 +36,8 @@ impl Model for Links {
     ghost view = { λ t. direct 0 t.links.items ++ t.above.entries };
 
     ghost invariant = { λ t. AreFar (length t.links.items) t.above.entries × Rises t.above.entries
-        × IsShort (length t.links.items) (length (direct 0 t.links.items ++ t.above.entries)) };
+        × IsShort (length t.links.items) (length (direct 0 t.links.items ++ t.above.entries))
+        × (t.count ≤ length (direct 0 t.links.items ++ t.above.entries)) };
 }
 
 // Returns the place of a node in a list of links.
@@ -95,6 +96,7 @@ impl Links {
         Links {
             links: Vec::new(alloc),
             above: BTreeMap::new(alloc),
+            count: 0,
         }
     }
 
@@ -120,24 +122,26 @@ impl Links {
         LinksIter::of(&self.links, &self.above)
     }
 
-    /// Notes the link of a node from 0 on that has none: one more than there are links. If an allocation fails, nothing
-    /// has changed.
-    pub(crate) fn note(&mut self, node: i64, link: usize) -> Result<(), AllocError>
-        requires some { pos 0 ≤ℤ node }
-        requires none { lookup (at node) self.old ≡ None }
-        requires next { link ≡ length self.old + 1 }
-        ensures ok { OnOk result (self.new ≡ insert_entry int_cmp self.old node link) }
+    /// Notes the link of a node from 0 on that has none. If an allocation fails, nothing has changed.
+    pub(crate) fn note(&mut self, node: &i64, link: usize) -> Result<(), AllocError>
+        requires some { pos 0 ≤ℤ node.now }
+        requires none { lookup (at node.now) self.old ≡ None }
+        requires link { 0 < link }
+        ensures ok { OnOk result (self.new ≡ insert_entry int_cmp self.old node.now link) }
         ensures err { OnErr result (self.new ≡ self.old) }
     {
-        let place = place_of(&node);
+        let place = place_of(node);
+        let count = self.count.saturating_add(1);
         if self.links.len() <= place {
-            if link.saturating_add(16) <= place / DENSE {
-                self.above.insert(node, link)?;
+            if count.saturating_add(16) <= place / DENSE {
+                self.above.insert(*node, link)?;
+                self.count = count;
                 return Ok(());
             }
             reach(&mut self.links, &mut self.above, place)?;
         }
         self.links[place] = link;
+        self.count = count;
         Ok(())
     }
 }

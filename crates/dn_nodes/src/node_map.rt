@@ -1,19 +1,17 @@
 // Values by node.
-ghost use Rattle.std.specs.Prelude.{◌≡◌, ◌<◌, ◌≤ℤ◌, ◌^◌, ℤ, pos, List, [], None, OnOk, OnErr, length};
-ghost use Rattle.std.specs.BTreeMap.{insert_entry};
+ghost use Rattle.std.specs.Prelude.{◌≡◌, ◌<◌, ◌≤ℤ◌, ◌^◌, pos, false, [], OnOk, OnErr, length};
 ghost use Rattle.std.specs.Iterator.{YieldsFirstBy, item_count};
 ghost use Rattle.std.specs.Option.{option_copied};
-ghost use Rattle.std.specs.Ordering.{int_cmp};
-ghost use Rattle.dn_nodes.specs.State.Nodes.{at, Rises, get, node_entry};
-ghost use Rattle.dn_nodes.specs.State.Links.{valued, AreWithin};
+ghost use Rattle.dn_nodes.specs.State.Nodes.{Gains, Rises, get, is_known, node_entry};
+ghost use Rattle.dn_nodes.specs.State.Links.{linked};
 
 use crate::links::Links;
 use crate::walk::LinksIter;
 use std::alloc::{AllocError, Global};
 use std::marker::Model;
 
-/// A value for each of some nodes from 0 on, by ascending node. To find a node takes one step where the nodes are dense
-/// from 0 on, and a path of an ordered map otherwise.
+/// Some nodes from 0 on, by ascending node, with a value for each that has one. To find a node takes one step where the
+/// nodes are dense from 0 on, and a path of an ordered map otherwise.
 #[derive(Drop)]
 pub struct NodeMap<V: Drop> {
     links: Links,
@@ -22,21 +20,30 @@ pub struct NodeMap<V: Drop> {
 
 impl<V: Drop> Model for NodeMap<V> {
     ghost use Rattle.std.specs.Prelude.{◌≡◌, length};
+    ghost use Rattle.std.specs.Map.{keys_of};
     ghost use Rattle.dn_nodes.specs.State.Nodes.{Nodes, Rises};
     ghost use Rattle.dn_nodes.specs.State.Links.{valued, AreWithin};
 
     ghost Value = { Nodes V };
 
-    ghost view = { λ m. record { entries = valued m.links m.values.items } };
+    ghost view = { λ m. record { entries = valued m.links m.values.items; known = keys_of m.links } };
 
     ghost invariant = { λ m. Rises m.links × AreWithin m.links m.values.items
-        × (length m.links ≡ length m.values.items) };
+        × (length (valued m.links m.values.items) ≡ length m.values.items) };
+}
+
+// Returns the value that a link leads to, if there is one.
+fn value_of<V>(values: &[V], link: Option<usize>) -> Option<&V>
+    ensures { option_copied result ≡ linked values.now link }
+{
+    values.get(link?.checked_sub(2)?)
 }
 
 impl<V: Drop> NodeMap<V> {
     /// Returns a map without nodes.
     pub fn new(alloc: Global) -> NodeMap<V>
-        ensures { result.entries ≡ [] }
+        ensures entries { result.entries ≡ [] }
+        ensures known { result.known ≡ [] }
     {
         NodeMap {
             links: Links::new(alloc),
@@ -44,12 +51,18 @@ impl<V: Drop> NodeMap<V> {
         }
     }
 
+    /// Returns whether the map has a node, with a value or without one.
+    pub fn is_known(&self, node: &i64) -> bool
+        ensures { result ≡ is_known self.now node.now }
+    {
+        self.links.find(node).is_some()
+    }
+
     /// Returns the value of a node.
     pub fn get(&self, node: &i64) -> Option<&V>
         ensures { option_copied result ≡ get self.now node.now }
     {
-        let link = self.links.find(node)?;
-        Some(&self.values[link - 1])
+        value_of(&self.values, self.links.find(node))
     }
 
     /// Returns how many nodes have a value.
@@ -60,7 +73,7 @@ impl<V: Drop> NodeMap<V> {
         self.values.len()
     }
 
-    /// Iterates over the nodes with their values, by ascending node. This does not allocate.
+    /// Iterates over the nodes that have a value, by ascending node. This does not allocate.
     pub fn iter(&self) -> Nodes<'_, V>
         ensures value { result ≡ self.now.entries }
         ensures rising { Rises self.now.entries }
@@ -71,25 +84,29 @@ impl<V: Drop> NodeMap<V> {
         }
     }
 
-    /// Adds the value of a node from 0 on that has none.
+    /// Adds a node from 0 on that the map does not have, with its value if it has one.
     ///
     /// # Errors
     ///
     /// Returns the error of the allocator if an allocation fails; then nothing has changed.
-    pub fn insert(&mut self, node: i64, value: V) -> Result<(), AllocError>
-        requires some { pos 0 ≤ℤ node }
-        requires none { get self.old node ≡ None }
-        ensures ok { OnOk result (self.new.entries ≡ insert_entry int_cmp self.old.entries node value) }
-        ensures err { OnErr result (self.new.entries ≡ self.old.entries) }
+    pub fn insert(&mut self, node: &i64, value: Option<V>) -> Result<(), AllocError>
+        requires some { pos 0 ≤ℤ node.now }
+        requires none { is_known self.old node.now ≡ false }
+        ensures ok { OnOk result (Gains self.old node.now value self.new) }
+        ensures err { OnErr result (self.new ≡ self.old) }
     {
+        let Some(value) = value else {
+            self.links.note(node, 1)?;
+            return Ok(());
+        };
         self.values.reserve(1)?;
-        self.links.note(node, self.values.len() + 1)?;
+        self.links.note(node, self.values.len() + 2)?;
         self.values.push_reserved(value);
         Ok(())
     }
 }
 
-/// The remaining nodes of a map with their values, by ascending node.
+/// The remaining nodes of a map that have a value, by ascending node.
 #[derive(Drop)]
 pub struct Nodes<'a, V: Drop> {
     links: LinksIter<'a>,
@@ -98,13 +115,11 @@ pub struct Nodes<'a, V: Drop> {
 
 impl<'a, V: Drop> Model for Nodes<'a, V> {
     ghost use Rattle.std.specs.Prelude.{ℤ, List};
-    ghost use Rattle.dn_nodes.specs.State.Links.{valued, AreWithin};
+    ghost use Rattle.dn_nodes.specs.State.Links.{valued};
 
     ghost Value = { List (ℤ × V) };
 
     ghost view = { λ n. valued n.links n.values.now };
-
-    ghost invariant = { λ n. AreWithin n.links n.values.now };
 }
 
 impl<'a, V: Drop> Iterator for Nodes<'a, V> {
@@ -115,7 +130,11 @@ impl<'a, V: Drop> Iterator for Nodes<'a, V> {
     ghost remaining = { item_count (λ s. s) };
 
     fn next(&mut self) -> Option<(i64, &'a V)> {
-        let (node, link) = self.links.next()?;
-        Some((node, &self.values[link - 1]))
+        while let Some((node, link)) = self.links.next() {
+            if let Some(value) = value_of(self.values, Some(link)) {
+                return Some((node, value));
+            }
+        }
+        None
     }
 }

@@ -1,5 +1,5 @@
 -- Lemmas on how a command ends, from the results of reading its texts.
-use Rattle.std.proofs.Common.{◌≡◌, ℕ, List, [], Option, Some, None, Result, Ok, Err, OnOk, IsTrue, IfSome, refl, inl, inr, append-nil}
+use Rattle.std.proofs.Common.{◌≡◌, ℕ, List, [], Option, Some, None, Result, Ok, Err, IsErrAnd, OnOk, IsTrue, IfSome, refl, inl, inr, append-nil}
 use Rattle.std.specs.Io.KnownBytes.{Appends}
 use Rattle.dn_instance.specs.State.Helds.{Parsed, IsHeld}
 use Rattle.dn_instance.specs.Instances.{Instance}
@@ -9,11 +9,19 @@ use Rattle.dn_instance.specs.declared.refusal.Refusal.{Refusal}
 use Rattle.dn_instance.specs.declared.refusal.Refusal.TheVariants.{Read}
 use Rattle.dn_sink.specs.Puts.{HasPut, Puts}
 use Rattle.dn_sink.specs.declared.sink.SinkFault.{SinkFault}
-use Rattle.dn_run.specs.Answers.{Answer, Done, Refused}
+use Rattle.dn_command.specs.Commands.{Asked}
+use Rattle.dn_files.specs.Takings.{FilesFacts}
+use Rattle.dn_line.specs.Sources.{SourceFacts}
+use Rattle.dn_run.specs.declared.stop.Stop.{Stop}
+use Rattle.dn_run.specs.Answers.{Answer, Done, IsAnswerTo, Refused}
+use Rattle.dn_run.specs.FilesRuns.{files_run}
+use Rattle.dn_run.specs.Runs.{Performs}
+use Rattle.dn_run.specs.State.CommandRuns.{Does}
+use Rattle.dn_run.specs.State.Endings.{IsNamed, stopped}
 use Rattle.dn_run.specs.Outcomes.{OnText, OnTwoTexts, RanOn, RanOnSome, RanOnTwo}
-use Rattle.dn_run.specs.Streams.{SinkRun, TakesLine}
+use Rattle.dn_run.specs.Streams.{SinkRun, TakesLine, sink_run}
 use Rattle.dn_run.specs.Texts.{AskedText, IsRefusedText}
-use Rattle.dn_run.specs.State.TextReads.{IsRead}
+use Rattle.dn_run.specs.State.TextReads.{IsRead, StopsAs}
 use Rattle.dn_sink.specs.Sinks.{SinkFacts}
 
 -- a text of which nothing is left to put was appended to what the sink has taken
@@ -26,6 +34,27 @@ pub line_taken : {S : Type 0} (err : SinkRun S) (line : List ℕ) (result : Resu
     → Puts err.facts err.old err.new line result → OnOk result (IsTrue (err.facts.is_flushed err.new))
     → TakesLine err line
 line_taken err line result puts flushed = record { result = result; puts = puts; flushed = flushed }
+
+-- an error that `?` passes on
+pub passed_on : {X E : Type 0} (r : Result X E) (e : E) → IsErrAnd r (λ y. y ≡ e) → r ≡ Err e
+passed_on (Ok x) e h = absurd h
+passed_on (Err y) e h = rw h
+
+-- what holds of the result of reading a text holds if the command stops with its name
+pub by_name : (Is : Result Parsed Refusal → Type 0) (name : List ℕ) (read : Result Parsed Refusal)
+    (result : Result Parsed Stop) → IsNamed name read result → Is read → StopsAs name Is result
+by_name Is name (Ok held) (Ok same) e h = rw e h
+by_name Is name (Err refusal) (Err stop) e h = (refusal, e, h)
+by_name Is name _ _ e h = absurd e
+
+-- a command that stops since a text is refused does this, if it has done nothing to `out`
+pub does_refuse : {F T S : Type 0} {files : FilesFacts F T} {source : SourceFacts T} {out : SinkFacts S} {asked : Asked}
+    {both : F × F} {sink : S} {name : List ℕ} {refusal : Refusal} (result : Result ℕ Stop) (stop : Stop)
+    → result ≡ Err stop → stopped stop ≡ Refused name refusal
+    → Performs (files_run files source both) (sink_run out (sink, sink)) asked (Refused name refusal)
+    → IsAnswerTo asked (Refused name refusal) → Does files source out asked both (sink, sink) result
+does_refuse result stop e is performs answers =
+    rw e (record { performs = rw is performs; out_after = rw is refl; answers = rw is answers; flushed = tt })
 
 -- if P implies Q of what is known, and P holds of it if there is any, so does Q
 pub by_behind : {X : Type 0} {P Q : X → Type 0} (behind : Option X) → ((x : X) → behind ≡ Some x → P x → Q x)

@@ -1,8 +1,8 @@
 -- Lemmas on what reading a text that a run asks for returns.
 use Rattle.dn_instance.specs.State.Helds.{Parsed}
-use Rattle.std.proofs.Common.{◌≡◌, ℕ, List, [], Option, Some, None, Result, Ok, Err, IsTrue, OnOk, IfOk, IfSome, IsErrOf, refl, inl, inr, append-nil}
+use Rattle.std.proofs.Common.{◌≡◌, ℕ, List, [], Option, Some, None, Result, Ok, Err, IsTrue, OnOk, IfErr, IfOk, IfSome, IsErrOf, refl, inl, inr, append-nil}
 use Rattle.std.specs.Io.KnownBytes.{IsAtEnd}
-use Rattle.dn_instance.specs.SourceReads.{AfterPulls, after_pulls, PulledWhileClean}
+use Rattle.dn_instance.specs.SourceReads.{AfterPulls, IsOfReading, after_pulls, PulledWhileClean}
 use Rattle.dn_instance.specs.State.SourceResults.{CopyOutcome, Copied, SourceOutcome, HoldsCopied, HoldsSome}
 use Rattle.dn_instance.specs.declared.refusal.Refusal.{Refusal}
 use Rattle.dn_instance.specs.declared.refusal.Refusal.TheVariants.{Text, Memory, Read, Endless}
@@ -33,13 +33,14 @@ module _ {T : Type 0} (text : AskedText T) where
     -- reading the source that was handed out returns what `IsRead` says
     pub handed_reads : (given : Option (List ℕ)) (r : Result Parsed Refusal) → IfSome text.behind (λ b. given ≡ Some b)
         → IfSome given (λ b. SourceOutcome b left r)
-        → (IsErrOf r Read → IsTrue (text.source.has_failed source)) → IfOk r HoldsSome
+        → (IsErrOf r Read → IsTrue (text.source.has_failed source)) → IfOk r HoldsSome → IfErr r IsOfReading
         → IsRead (IsRefusedText text) text r
-    handed_reads given r e h read held = record {
+    handed_reads given r e h read held refusal = record {
       not_handed = rw fine tt;
       failed = λ _ is. record { source = source; comes = comes; failed = read is };
       handed = λ _. by_behind text.behind (λ b known (is : given ≡ Some b). reads_as b r (rw is at h) read) e;
       held = held;
+      refusal = refusal;
     }
 
     copies_as : (b copy : List ℕ) (r : Result Parsed Refusal) → CopyOutcome b left [] copy r
@@ -70,13 +71,15 @@ module _ {T : Type 0} (text : AskedText T) where
     pub handed_copies : (given : Option (List ℕ)) (old copy : List ℕ) (r : Result Parsed Refusal) → old ≡ []
         → IfSome text.behind (λ b. given ≡ Some b) → IfSome given (λ b. CopyOutcome b left old copy r)
         → (IsErrOf r Read → IsTrue (text.source.has_failed source)) → IfOk r (HoldsCopied old copy)
+        → IfErr r IsOfReading
         → IsRead (IsRefusedCopy text) text r
-    handed_copies given old copy r empty e h read held = record {
+    handed_copies given old copy r empty e h read held refusal = record {
       not_handed = rw fine tt;
       failed = λ _ is. record { source = source; comes = comes; failed = read is };
       handed = λ _. by_behind text.behind
           (λ b known (is : given ≡ Some b). copies_as b copy r (rw (is, empty) at h) read) e;
       held = held_of r held;
+      refusal = refusal;
     }
       where
         held_of : (r : Result Parsed Refusal) → IfOk r (HoldsCopied old copy) → IfOk r HoldsSome

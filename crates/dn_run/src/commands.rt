@@ -48,16 +48,12 @@ fn show<'a, F: Files, O: Sink>(
     ensures { Does F.files F.Text.source O.sink (Show name.now)
         (files.old, files.new) (out.old, out.new) result }
 {
-    match read_named(alloc, name, files) {
-        Ok(held) => {
-            let put = put_shown(out, &held);
-            drop(held);
-            match put {
-                Ok(()) => Ok(0),
-                Err(_) => Err(Stop::Cut),
-            }
-        }
-        Err(refusal) => Err(Stop::Refused { name, refusal }),
+    let held = read_named(alloc, name, files)?;
+    let put = put_shown(out, &held);
+    drop(held);
+    match put {
+        Ok(()) => Ok(0),
+        Err(_) => Err(Stop::Cut),
     }
 }
 
@@ -72,16 +68,12 @@ fn canon<'a, F: Files, O: Sink>(
     ensures { Does F.files F.Text.source O.sink (Canon name.now form)
         (files.old, files.new) (out.old, out.new) result }
 {
-    match read_named(alloc, name, files) {
-        Ok(held) => {
-            let written = write_canon(&held, out, form);
-            files.release(held);
-            match written {
-                Ok(()) => Ok(0),
-                Err(refusal) => Err(unwritten(name, refusal)),
-            }
-        }
-        Err(refusal) => Err(Stop::Refused { name, refusal }),
+    let held = read_named(alloc, name, files)?;
+    let written = write_canon(&held, out, form);
+    files.release(held);
+    match written {
+        Ok(()) => Ok(0),
+        Err(refusal) => Err(unwritten(name, refusal)),
     }
 }
 
@@ -96,14 +88,10 @@ fn check<'a, F: Files, O: Sink>(
         (files.old, files.new) (out.old, out.new) result }
 {
     let mut copy = Vec::new(alloc);
-    match copy_named(alloc, name, files, &mut copy) {
-        Ok(held) => {
-            let put = put_check(&held, None, &copy, out);
-            drop(held);
-            put
-        }
-        Err(refusal) => Err(Stop::Refused { name, refusal }),
-    }
+    let held = copy_named(alloc, name, files, &mut copy)?;
+    let put = put_check(&held, None, &copy, out);
+    drop(held);
+    put
 }
 
 // Puts the kinds of the text and of its companion, which must fit, and the forms in which the text is canonical.
@@ -119,36 +107,31 @@ fn check_with<'a, F: Files, O: Sink>(
         (files.old, files.new) (out.old, out.new) result }
 {
     let mut copy = Vec::new(alloc);
-    match copy_named(alloc, name, files, &mut copy) {
-        Ok(graph) => match read_named(alloc, companion, files) {
-            Ok(held) => {
-                let fits = check_companion(&graph, &held);
-                let with = held.kind();
-                drop(held);
-                match fits {
-                    Ok(()) => {
-                        let put = put_check(&graph, Some(with), &copy, out);
-                        drop(graph);
-                        put
-                    }
-                    Err(fault) => {
-                        drop(graph);
-                        Err(Stop::Unfit {
-                            name: companion,
-                            fault,
-                        })
-                    }
+    let graph = copy_named(alloc, name, files, &mut copy)?;
+    match read_named(alloc, companion, files) {
+        Ok(held) => {
+            let fits = check_companion(&graph, &held);
+            let with = held.kind();
+            drop(held);
+            match fits {
+                Ok(()) => {
+                    let put = put_check(&graph, Some(with), &copy, out);
+                    drop(graph);
+                    put
+                }
+                Err(fault) => {
+                    drop(graph);
+                    Err(Stop::Unfit {
+                        name: companion,
+                        fault,
+                    })
                 }
             }
-            Err(refusal) => {
-                drop(graph);
-                Err(Stop::Refused {
-                    name: companion,
-                    refusal,
-                })
-            }
-        },
-        Err(refusal) => Err(Stop::Refused { name, refusal }),
+        }
+        Err(stop) => {
+            drop(graph);
+            Err(stop)
+        }
     }
 }
 
@@ -164,25 +147,17 @@ fn compare_named<'a, F: Files, O: Sink>(
     ensures { Does F.files F.Text.source O.sink (Compare left.now right.now)
         (files.old, files.new) (out.old, out.new) result }
 {
-    match read_named(alloc, left, files) {
-        Ok(one) => match read_named(alloc, right, files) {
-            Ok(other) => {
-                let found = put_compared(&one, &other, out);
-                drop(other);
-                drop(one);
-                found
-            }
-            Err(refusal) => {
-                drop(one);
-                Err(Stop::Refused {
-                    name: right,
-                    refusal,
-                })
-            }
-        },
-        Err(refusal) => Err(Stop::Refused {
-            name: left,
-            refusal,
-        }),
+    let one = read_named(alloc, left, files)?;
+    match read_named(alloc, right, files) {
+        Ok(other) => {
+            let found = put_compared(&one, &other, out);
+            drop(other);
+            drop(one);
+            found
+        }
+        Err(stop) => {
+            drop(one);
+            Err(stop)
+        }
     }
 }

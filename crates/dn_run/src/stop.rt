@@ -1,10 +1,10 @@
 // Why a command stops before it is done.
 ghost use Rattle.std.specs.Prelude.{◌≡◌};
 ghost use Rattle.dn_run.specs.Answers.{Tells, refusal_status, status_of};
-ghost use Rattle.dn_run.specs.State.Endings.{stopped, unwritten};
+ghost use Rattle.dn_run.specs.State.Endings.{IsNamed, stopped, unwritten};
 ghost use Rattle.dn_run.specs.Streams.{sink_run};
 
-use dn_instance::{CompanionFault, Refusal};
+use dn_instance::{CompanionFault, Held, Refusal};
 use dn_report::{put_fault_line, put_unfit_line};
 use dn_sink::Sink;
 
@@ -47,6 +47,16 @@ impl Stop<'_> {
             Stop::Unfit { name, fault } => put_unfit_line(err, name, fault),
             Stop::Cut => put_fault_line(err, "", &Refusal::Write),
         };
+    }
+}
+
+// Returns the result of reading the text of this name, where the command stops if the text is refused.
+pub(crate) fn or_stop<'a>(name: &'a str, read: Result<Held, Refusal>) -> Result<Held, Stop<'a>>
+    ensures { IsNamed name.now read result }
+{
+    match read {
+        Ok(held) => Ok(held),
+        Err(refusal) => Err(Stop::Refused { name, refusal }),
     }
 }
 

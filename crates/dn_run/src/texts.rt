@@ -1,25 +1,24 @@
 // Reads texts by name.
-ghost use Rattle.std.specs.Prelude.{◌≡◌, [], IfErr, IfOk};
+ghost use Rattle.std.specs.Prelude.{◌≡◌, []};
 ghost use Rattle.dn_instance.specs.SourceReads.{IsOfReading};
-ghost use Rattle.dn_instance.specs.State.SourceResults.{HoldsCopied};
 ghost use Rattle.dn_run.specs.State.CommandRuns.{taken_text};
 ghost use Rattle.dn_run.specs.FilesRuns.{ReadsOne};
-ghost use Rattle.dn_run.specs.Texts.{IsRefusedCopy, IsRefusedText, unopened};
-ghost use Rattle.dn_run.specs.State.TextReads.{IsCopy, IsRead};
+ghost use Rattle.dn_run.specs.Texts.{IsRefusedText, unopened};
+ghost use Rattle.dn_run.specs.State.TextReads.{IsCopied, IsRead, StopsAs};
 
+use crate::stop::{Stop, or_stop};
 use dn_files::{Files, FilesFault};
 use dn_instance::{Held, Refusal, read_from, read_keep};
 use std::alloc::Global;
 
 // Reads the text of this name.
-pub(crate) fn read_named<F: Files>(
+pub(crate) fn read_named<'a, F: Files>(
     alloc: Global,
-    name: &str,
+    name: &'a str,
     files: &mut F,
-) -> Result<Held, Refusal>
+) -> Result<Held, Stop<'a>>
     ensures read { let text = taken_text F.files F.Text.source (files.old, files.new) name.now in
-        IsRead (IsRefusedText text) text result }
-    ensures refusal { IfErr result IsOfReading }
+        StopsAs name.now (IsRead (IsRefusedText text) text) result }
     ensures asks { ReadsOne F.files F.Text.source files.old files.new name.now }
 {
     match files.take(name) {
@@ -27,26 +26,25 @@ pub(crate) fn read_named<F: Files>(
             let mut source = text;
             let read = read_from(alloc, &mut source);
             files.give_back(name, source);
-            read
+            or_stop(name, read)
         }
-        Err(fault) => Err(unopened(fault)),
+        Err(fault) => Err(Stop::Refused {
+            name,
+            refusal: unopened(fault),
+        }),
     }
 }
 
 // Reads the text of this name, and copies it into `copy`, which is empty before.
-pub(crate) fn copy_named<F: Files>(
+pub(crate) fn copy_named<'a, F: Files>(
     alloc: Global,
-    name: &str,
+    name: &'a str,
     files: &mut F,
     copy: &mut Vec<u8>,
-) -> Result<Held, Refusal>
+) -> Result<Held, Stop<'a>>
     requires { copy.old.items ≡ [] }
     ensures read { let text = taken_text F.files F.Text.source (files.old, files.new) name.now in
-        IsRead (IsRefusedCopy text) text result }
-    ensures copied { IfOk result (HoldsCopied [] copy.new.items) }
-    ensures copy { let text = taken_text F.files F.Text.source (files.old, files.new) name.now in
-        IsCopy text copy.new.items result }
-    ensures refusal { IfErr result IsOfReading }
+        StopsAs name.now (IsCopied text copy.new.items) result }
     ensures asks { ReadsOne F.files F.Text.source files.old files.new name.now }
 {
     match files.take(name) {
@@ -54,9 +52,12 @@ pub(crate) fn copy_named<F: Files>(
             let mut source = text;
             let read = read_keep(alloc, &mut source, copy);
             files.give_back(name, source);
-            read
+            or_stop(name, read)
         }
-        Err(fault) => Err(unopened(fault)),
+        Err(fault) => Err(Stop::Refused {
+            name,
+            refusal: unopened(fault),
+        }),
     }
 }
 

@@ -16,9 +16,6 @@ use pair_index::{AHEAD, PairIndex, is_pair};
 use std::alloc::{AllocError, Global};
 use std::marker::Model;
 
-// How many calls of `wants_hints` pass before it asks again, after a look-up that saved no time.
-const REST: usize = 7;
-
 /// The bundles of the arcs so far, one for each pair, in any order.
 #[derive(Drop)]
 pub struct TableSoFar<B: Bundle> {
@@ -27,8 +24,6 @@ pub struct TableSoFar<B: Bundle> {
     // Hints of the positions of the next pairs, and how many of the hints are used.
     hints: [u32; AHEAD],
     used: usize,
-    // How many calls of `wants_hints` pass before it asks again.
-    rest: usize,
 }
 
 impl<B: Bundle> Model for TableSoFar<B> {
@@ -53,19 +48,12 @@ impl<B: Bundle> TableSoFar<B> {
             index: PairIndex::new(),
             hints: [0; AHEAD],
             used: AHEAD,
-            rest: 0,
         }
     }
 
-    /// Whether hints of the positions of the next pairs may save time, and all earlier hints are used. If the last
-    /// look-up saved no time, not before `REST` more calls. This affects only the speed.
-    pub fn wants_hints(&mut self) -> bool
-        ensures { self.new ≡ self.old }
-    {
-        if 0 < self.rest {
-            self.rest -= 1;
-            return false;
-        }
+    /// Whether hints of the positions of the next pairs may save time, and all earlier hints are used. This has no
+    /// contract, because it affects only the speed.
+    pub fn wants_hints(&self) -> bool {
         AHEAD <= self.used && self.index.is_scattered(self.entries.len())
     }
 
@@ -74,12 +62,9 @@ impl<B: Bundle> TableSoFar<B> {
     pub fn find_hints(&mut self, alloc: Global, pairs: &[(i64, i64); AHEAD])
         ensures { self.new ≡ self.old }
     {
-        match self.index.hints(alloc, &self.entries, pairs) {
-            Some(hints) => {
-                self.hints = hints;
-                self.used = 0;
-            }
-            None => self.rest = REST,
+        if let Some(hints) = self.index.hints(alloc, &self.entries, pairs) {
+            self.hints = hints;
+            self.used = 0;
         }
     }
 

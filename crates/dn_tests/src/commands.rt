@@ -2,16 +2,16 @@
 
 mod cases;
 
-use cases::{FILES, HELP, OPTIONS, OTHERS};
-use dn_bundle::Form;
+use cases::{BAD, COMMANDS, HELP, VERSION};
+use dn_bundle::{BundleFault, Form};
 use dn_command::{Command, Request, request_of};
 use dn_instance::{CompanionFault, Refusal};
-use dn_line::Code;
+use dn_line::{Code, SourceFault};
 use std::alloc::{AllocError, Global};
 use std::fmt::Display;
 use std::test::Fail;
 
-const VERSION: &str = "dnorm 2.0.0-dev\n";
+const VERSION_TEXT: &str = "dnorm 2.0.0-dev\n";
 
 // Returns the words of a line after the program's name. `|` separates the words of the line.
 pub(crate) fn owned(alloc: Global, line: &str) -> Result<Vec<String>, AllocError> {
@@ -59,7 +59,7 @@ fn command_text(alloc: Global, command: &Command<'_>) -> Result<String, AllocErr
 fn request_text(alloc: Global, request: &Request<'_>) -> Result<String, AllocError> {
     match request {
         Request::Command(command) => command_text(alloc, command),
-        Request::Print(text) if text.as_str() == VERSION => String::from_str(alloc, "version"),
+        Request::Print(text) if text.as_str() == VERSION_TEXT => String::from_str(alloc, "version"),
         Request::Print(_) => String::from_str(alloc, "help"),
         Request::Bad => String::from_str(alloc, "bad"),
         Request::Memory => String::from_str(alloc, "memory"),
@@ -74,14 +74,11 @@ fn is_read(alloc: Global, line: &str, wanted: &str) -> Result<bool, AllocError> 
     Ok(text.as_str() == wanted)
 }
 
-// Command lines, by subject.
-const LINES: [&[(&str, &str)]; 4] = [&FILES, &OPTIONS, &HELP, &OTHERS];
-
-// Returns the first line that asks for something else.
-fn first_other(alloc: Global, lines: &[(&'static str, &str)]) -> Option<&'static str> {
-    for (line, wanted) in lines {
+// Returns the first of these lines, with `;` between them, that asks for something else.
+fn first_other(alloc: Global, lines: &'static str, wanted: &str) -> Option<&'static str> {
+    for line in lines.split(';') {
         if is_read(alloc, line, wanted) != Ok(true) {
-            return Some(*line);
+            return Some(line);
         }
     }
     None
@@ -89,8 +86,11 @@ fn first_other(alloc: Global, lines: &[(&'static str, &str)]) -> Option<&'static
 
 #[test]
 fn command_lines(rt: HostRuntime) {
-    for lines in &LINES {
-        assert_eq!(rt; first_other(rt.alloc(), lines), None);
+    for (line, command) in &COMMANDS {
+        assert_eq!(rt; first_other(rt.alloc(), line, command), None);
+    }
+    for (lines, wanted) in [(BAD, "bad"), (HELP, "help"), (VERSION, "version")] {
+        assert_eq!(rt; first_other(rt.alloc(), lines, wanted), None);
     }
 }
 
@@ -100,7 +100,7 @@ fn the_version(rt: HostRuntime) -> Result<(), Fail> {
     let Request::Print(text) = request_of(rt.alloc(), &words) else {
         return Err(Fail::from("no text"));
     };
-    assert_eq!(rt; text.as_str(), VERSION);
+    assert_eq!(rt; text.as_str(), VERSION_TEXT);
     Ok(())
 }
 
@@ -193,6 +193,20 @@ fn refusals_are_written_as_sentences(rt: HostRuntime) -> Result<(), Fail> {
         assert!(rt; is_written(rt.alloc(), fault.number(), fault));
     }
     Ok(())
+}
+
+#[test]
+fn other_faults_are_written_as_sentences(rt: HostRuntime) {
+    let text = format!(in rt.alloc();
+        "{}, {}, {}",
+        SourceFault,
+        BundleFault::Sum,
+        BundleFault::Memory
+    );
+    assert!(rt;
+        text.is_ok_and(|text| text.as_str()
+            == "the source of bytes failed, the capacities sum past 2^63-1, out of memory")
+    );
 }
 
 // Whether the help text has the line of a refusal: its number, its name, and then a sentence.

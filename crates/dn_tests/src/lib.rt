@@ -1,17 +1,13 @@
-//! Tests of the public functions of the libraries: texts, lines, numbers, bundles, pairs and runs with known results.
-//! The tests have a crate of their own, so that a library is proved once, and not a second time with its tests.
+//! Tests of what no clause says of the libraries: that calls succeed where memory may run out, that plain numbers and
+//! lines are found, that pairs and nodes are found in each way, that streams which failed are not tried again, and what
+//! is printed; and of whole runs over texts in memory. The tests have a crate of their own, so that a library is proved
+//! once, and not a second time with its tests.
 #![tactic(auto)]
 
-#[cfg(test)]
-mod bundles;
-#[cfg(test)]
-mod canons;
 #[cfg(test)]
 mod commands;
 #[cfg(test)]
 mod indexes;
-#[cfg(test)]
-mod instances;
 #[cfg(test)]
 mod lines;
 #[cfg(test)]
@@ -21,12 +17,12 @@ mod nodes;
 #[cfg(test)]
 mod numbers;
 #[cfg(test)]
-mod reports;
-#[cfg(test)]
 mod runs;
 #[cfg(test)]
 mod shelves;
 #[cfg(test)]
 mod stand_ins;
+#[cfg(test)]
+mod streams;
 #[cfg(test)]
 mod texts;

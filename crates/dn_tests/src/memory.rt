@@ -1,10 +1,11 @@
 // Each function that reads a text or writes its canonical text, where an allocation may fail.
 
 use crate::texts::{ROADS, ROADS_CANON};
-use dn_bundle::Form;
+use dn_bundle::{CostArc, Curve, Form, bundle_of};
 use dn_canon::{canon_run, canon_text, is_canon};
 use dn_instance::{Held, Reader, Refusal, read_from, read_keep, read_text};
 use dn_line::Slice;
+use dn_num::append_number;
 use dn_sink::Bytes;
 use std::alloc::Global;
 use std::io::{ErrorKind, Input, Read};
@@ -50,8 +51,9 @@ fn is_put(alloc: Global, text: &[u8], canon: &[u8]) -> Result<bool, Refusal> {
     }
 }
 
-// Whether the results of all functions on a text are right, except that one of them may be out of memory.
-fn are_right(alloc: Global, text: &[u8], canon: &[u8]) -> bool {
+// Whether the results of all functions on a text are right, except that one of them may be out of memory if
+// `may_refuse`.
+fn are_right(alloc: Global, text: &[u8], canon: &[u8], mut may_refuse: bool) -> bool {
     let answers = [
         is_read(alloc, text, canon),
         is_read_from(alloc, text, canon),
@@ -60,19 +62,18 @@ fn are_right(alloc: Global, text: &[u8], canon: &[u8]) -> bool {
         is_put(alloc, text, canon),
         is_canon(alloc, canon, Form::Two),
     ];
-    let mut is_refused = false;
     for answer in answers {
         match answer {
             Ok(true) => {}
-            Err(Refusal::Memory) if !is_refused => is_refused = true,
+            Err(Refusal::Memory) if may_refuse => may_refuse = false,
             _ => return false,
         }
     }
     true
 }
 
-// Standard input contains a text, a byte 0, and the canonical text in form 2; or nothing. `test_memory.py` refuses each
-// allocation of this test in turn.
+// Standard input contains a text, a byte 0, and the canonical text in form 2, and `test_memory.py` refuses each
+// allocation of this test in turn; or it contains nothing, and no call may be out of memory.
 #[test]
 fn a_refused_growth(rt: HostRuntime) {
     let mut given = Vec::new(rt.alloc());
@@ -80,9 +81,21 @@ fn a_refused_growth(rt: HostRuntime) {
         assert!(rt; error.kind() == ErrorKind::OutOfMemory, "standard input");
         return;
     }
-    let (text, canon) = match given.iter().position(|it| *it == 0) {
-        Some(at) => (&given[..at], &given[at + 1..]),
-        None => (ROADS.as_bytes(), ROADS_CANON.as_bytes()),
+    let (text, canon, may_refuse) = match given.iter().position(|it| *it == 0) {
+        Some(at) => (&given[..at], &given[at + 1..], true),
+        None => (ROADS.as_bytes(), ROADS_CANON.as_bytes(), false),
     };
-    assert!(rt; are_right(rt.alloc(), text, canon));
+    assert!(rt; are_right(rt.alloc(), text, canon, may_refuse));
+}
+
+#[test]
+fn a_number_and_a_bundle_with_enough_memory(rt: HostRuntime) {
+    let mut out = Vec::new(rt.alloc());
+    assert!(rt; append_number(&mut out, 7).is_ok());
+    let arc = CostArc {
+        low: 1,
+        cap: 3,
+        cost: 5,
+    };
+    assert!(rt; bundle_of::<Curve>(rt.alloc(), &[arc]).is_ok());
 }

@@ -4,12 +4,11 @@ ghost use Rattle.std.specs.Prelude.{◌≡◌, ◌||◌, None, false, true, Some
 use dn_line::{Source, SourceFault};
 use dn_sink::{Bytes, Sink, SinkFault};
 use std::alloc::Global;
-use std::io;
-use std::io::{ErrorKind, Read, Write};
 
 /// A source that gives at most `size` bytes a pull, and fails after `pulls` pulls.
 #[derive(Clone, Copy)]
 pub(crate) struct Pieces<'a> {
+    piece: &'a [u8],
     pub(crate) rest: &'a [u8],
     size: usize,
     pulls: usize,
@@ -22,6 +21,7 @@ impl<'a> Pieces<'a> {
         ensures { result.failed ≡ false }
     {
         Pieces {
+            piece: b"",
             rest,
             size,
             pulls,
@@ -33,17 +33,23 @@ impl<'a> Pieces<'a> {
 impl<'a> Source for Pieces<'a> {
     ghost source = { record { gives = λ _. None; has_failed = λ s. s.failed; Pulls = λ _ _. Unit {0} } };
 
-    fn pull(&mut self, into: &mut [u8]) -> Result<usize, SourceFault> {
+    ghost piece = { λ s. s.piece.now };
+
+    fn pull(&mut self, most: usize) -> Result<(), SourceFault> {
         if self.failed || self.pulls == 0 {
             self.failed = true;
             return Err(SourceFault);
         }
         self.pulls -= 1;
-        let n = self.rest.len().min(into.len()).min(self.size.max(1));
+        let n = self.rest.len().min(most).min(self.size.max(1));
         let (front, back) = self.rest.split_at(n);
-        into[..n].copy_from_slice(front);
+        self.piece = front;
         self.rest = back;
-        Ok(n)
+        Ok(())
+    }
+
+    fn piece(&self) -> &[u8] {
+        self.piece
     }
 }
 
@@ -108,59 +114,5 @@ impl Sink for NoFlush {
     fn flush(&mut self) -> Result<(), SinkFault> {
         self.flushed = true;
         Err(SinkFault)
-    }
-}
-
-/// A stream that fails once, at its first call, and then reads zeros and takes everything.
-#[derive(Drop)]
-pub(crate) struct FailsOnce {
-    failed: bool,
-}
-
-impl FailsOnce {
-    pub(crate) fn new() -> FailsOnce {
-        FailsOnce { failed: false }
-    }
-
-    // Fails at the first call.
-    fn call(&mut self) -> io::Result<()> {
-        if self.failed {
-            return Ok(());
-        }
-        self.failed = true;
-        Err(io::Error::from(ErrorKind::Interrupted))
-    }
-}
-
-impl Read for FailsOnce {
-    fn read(&mut self, into: &mut [u8]) -> io::Result<usize> {
-        self.call()?;
-        into.fill(0);
-        Ok(into.len())
-    }
-}
-
-impl Write for FailsOnce {
-    fn write(&mut self, buf: &[u8]) -> io::Result<usize> {
-        self.call()?;
-        Ok(buf.len())
-    }
-
-    fn flush(&mut self) -> io::Result<()> {
-        self.call()
-    }
-}
-
-/// A writer that takes everything, but whose flush fails.
-#[derive(Drop)]
-pub(crate) struct LateWriter;
-
-impl Write for LateWriter {
-    fn write(&mut self, buf: &[u8]) -> io::Result<usize> {
-        Ok(buf.len())
-    }
-
-    fn flush(&mut self) -> io::Result<()> {
-        Err(io::Error::from(ErrorKind::WouldBlock))
     }
 }

@@ -314,6 +314,10 @@ module _ {X : Type 0} (begin : ℕ) (es : List ((ℤ × ℤ) × X)) where
       → IsChained chains (keys_of (group_of begin es))
   group_linked chains linked = rw (keys_from begin es) linked
 
+  pub linked_back : (chains : Chains) → IsChained chains (keys_of (group_of begin es))
+      → IsChained chains (drop begin (keys_of es))
+  linked_back chains linked = rw (keys_from begin es) at linked
+
   pub found_linked : (falls : Bool) (p : ℤ × ℤ) (o : Option ℕ) → IsGroup falls (keys_of es) begin
       → IsPosition (keys_of (group_of begin es)) p o
       → IsPositionFrom (keys_of es) begin p (option_map (λ i. begin + i) o)

@@ -13,7 +13,7 @@ ghost use Rattle.pair_index.specs.State.Tailed.{IsTailed};
 use crate::chains::Chains;
 use crate::runs::Runs;
 use crate::sort::sort_by_pair;
-use crate::tails::{Tails, are_near_pairs};
+use crate::tails::{Tails, are_near, are_near_pairs};
 use std::alloc::{AllocError, Global};
 use std::collections::BTreeMap;
 
@@ -65,18 +65,17 @@ fn linked<X>(alloc: Global, entries: &[((i64, i64), X)]) -> Result<Option<Way>, 
     if let Some(tails) = Tails::of(alloc, entries)? {
         return Ok(Some(Way::Tails(tails)));
     }
-    match Chains::of(alloc, entries, false)? {
+    match Chains::of(alloc, entries)? {
         Some(chains) => Ok(Some(Way::Chained(chains))),
         None => Ok(None),
     }
 }
 
-// Returns a way to find the entries and a pair that comes next: by tails, or by buckets, or by the ordered map. If
-// `short`, no chain of the entries over buckets is long. Which way it returns affects only the speed.
+// Returns a way to find the entries and a pair that comes next: by tails, or by buckets, or by the ordered map. Which
+// way it returns affects only the speed.
 fn way_with<X>(
     alloc: Global,
     entries: &[((i64, i64), X)],
-    short: bool,
     pair: &(i64, i64),
 ) -> Result<Way, AllocError>
     requires apart { IsDistinct same_pair (keys_of entries.now) }
@@ -86,7 +85,7 @@ fn way_with<X>(
     if let Some(tails) = tails_with(alloc, entries, pair)? {
         return Ok(Way::Tails(tails));
     }
-    if let Some(chains) = chains_with(alloc, entries, short, pair)? {
+    if let Some(chains) = chains_with(alloc, entries, pair)? {
         return Ok(Way::Chained(chains));
     }
     Ok(Way::Ordered(positions_with(alloc, entries, pair)?))
@@ -115,15 +114,14 @@ fn tails_with<X>(
 fn chains_with<X>(
     alloc: Global,
     entries: &[((i64, i64), X)],
-    short: bool,
     pair: &(i64, i64),
 ) -> Result<Option<Chains>, AllocError>
     ensures { IfOk result (λ o. IfSome o (λ chains. IsChained chains (keys_of entries.now ++ pair.now ∷ []))) }
 {
-    let Some(mut chains) = Chains::of(alloc, entries, short)? else {
+    let Some(mut chains) = Chains::of(alloc, entries)? else {
         return Ok(None);
     };
-    if chains.take(pair) {
+    if chains.take(entries, pair)? {
         return Ok(Some(chains));
     }
     Ok(None)
@@ -240,7 +238,12 @@ impl PairIndex {
                 }
                 tails.take(entries, pair)
             }
-            Way::Chained(chains) => Ok(chains.take(pair)),
+            Way::Chained(chains) => {
+                if chains.is_full() && are_near(entries) {
+                    return Ok(false);
+                }
+                chains.take(entries, pair)
+            }
             Way::Ordered(positions) => {
                 positions.insert(*pair, entries.len())?;
                 Ok(true)
@@ -267,8 +270,7 @@ impl PairIndex {
         if self.take(alloc, entries, pair)? {
             return Ok(());
         }
-        let short = matches!(self.way, Way::Chained(_));
-        self.way = way_with(alloc, entries, short, pair)?;
+        self.way = way_with(alloc, entries, pair)?;
         Ok(())
     }
 }

@@ -263,24 +263,18 @@ impl Runs {
                 if entries.len() - self.begin < FEW {
                     return Ok(true);
                 }
-                self.link_group(alloc, entries, false, pair)
+                self.link_group(alloc, entries, pair)
             }
-            Group::Linked(chains) => {
-                if chains.take(pair) {
-                    return Ok(true);
-                }
-                self.link_group(alloc, entries, true, pair)
-            }
+            Group::Linked(chains) => chains.take(&entries[self.begin..], pair),
         }
     }
 
     // Links the entries of the group and a pair that comes next. Returns false and changes nothing if a chain would be
-    // long; if `short`, no chain of the entries is. If an allocation fails, nothing changes.
+    // long. If an allocation fails, nothing changes.
     fn link_group<X>(
         &mut self,
         alloc: Global,
         entries: &[((i64, i64), X)],
-        short: bool,
         pair: &(i64, i64),
     ) -> Result<bool, AllocError>
         requires group { IsGroup self.old.falls (keys_of entries.now) self.old.begin }
@@ -288,14 +282,15 @@ impl Runs {
         ensures taken { result ≡ Ok true → ShowsRuns self.new (keys_of entries.now ++ pair.now ∷ []) }
         ensures not { result ≢ Ok true → self.new ≡ self.old }
     {
-        match Chains::of(alloc, &entries[self.begin..], short)? {
+        let group = &entries[self.begin..];
+        match Chains::of(alloc, group)? {
             Some(mut chains) => {
-                if !chains.take(pair) {
-                    drop(chains);
-                    return Ok(false);
+                if chains.take(group, pair)? {
+                    self.group = Group::Linked(chains);
+                    return Ok(true);
                 }
-                self.group = Group::Linked(chains);
-                Ok(true)
+                drop(chains);
+                Ok(false)
             }
             None => Ok(false),
         }

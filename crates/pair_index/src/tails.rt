@@ -14,9 +14,7 @@ use std::alloc::{AllocError, Global};
 // The greatest count of tails for each entry that there is capacity for.
 const DENSE: usize = 4;
 
-// Two tails are near if they differ by at most one for each `SPAN` entries, and by at most `FARTHEST`.
-const FARTHEST: usize = 16384;
-
+// Two tails are near if they differ by at most one for each `SPAN` entries.
 const SPAN: usize = 64;
 
 // For each tail a link to the position of its least head, and for each position a link to the one of its tail with the
@@ -44,12 +42,12 @@ fn tail_of(pair: &(i64, i64)) -> Option<usize>
 
 // Returns how much two tails that are near may differ, among this many entries.
 fn span(entries: usize) -> u64 {
-    (entries / SPAN).min(FARTHEST) as u64
+    (entries / SPAN) as u64
 }
 
 // Whether at most half of the entries have a tail that is not near that of the entry before. This has no contract,
 // because it affects only the speed.
-fn are_near<X>(entries: &[((i64, i64), X)]) -> bool {
+pub(crate) fn are_near<X>(entries: &[((i64, i64), X)]) -> bool {
     let near = span(entries.len());
     let mut far = 0usize;
     for i in 1..entries.len() {

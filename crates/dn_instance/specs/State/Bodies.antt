@@ -1,7 +1,7 @@
 -- What the lines of a text make, and how rows change it.
 use Rattle.std.specs.Prelude.{◌≡◌, ◌<◌, ◌^◌, ℕ, ℤ, List, [], ◌∷◌, ◌++◌, Bool, IsTrue, ◌↔◌, filter_map, take, drop, Option, Some, None, Result, Err, OnOk, Vec}
 use Rattle.std.specs.Global.{Global}
-use Rattle.std.specs.List.{AllByRecursion}
+use Rattle.std.specs.List.{AllByRecursion, list_any}
 use Rattle.dn_line.specs.Faults.{first_fault}
 use Rattle.dn_line.specs.declared.code.Code.{Code}
 use Rattle.dn_line.specs.declared.kind.Kind.{Kind}
@@ -11,10 +11,10 @@ use Rattle.dn_line.specs.declared.row.Row.{Row}
 use Rattle.dn_line.specs.declared.row_block.RowLine.{RowLine}
 use Rattle.dn_arc.specs.Kinds.{ArcKind}
 use Rattle.dn_arc.specs.State.Bundles.{BundleFacts, meant}
-use Rattle.dn_nodes.specs.State.Nodes.{Nodes}
+use Rattle.dn_nodes.specs.State.Nodes.{Nodes, is_known}
 use Rattle.dn_table.specs.State.Tables.{AreArcs, GraphNeedsMore, Stays, TableLists}
 use Rattle.dn_instance.specs.Items.{Problem, problem_of, arcs_of, source_in, query_in, point_in, by_key}
-use Rattle.dn_instance.specs.TextFaults.{item_tests}
+use Rattle.dn_instance.specs.TextFaults.{has_point, item_tests}
 use Rattle.dn_instance.specs.EntryCount.{entries_by}
 use Rattle.dn_instance.specs.Readers.{NeedsMemory}
 use Rattle.dn_instance.specs.State.ItemFaults.{AnswersFault, arc_fault}
@@ -96,9 +96,15 @@ ids_body = list_body Ss source_in
 abbrev pub pairs_body : TakerFacts (Vec (ℤ × ℤ) Global)
 pairs_body = list_body P2p query_in
 
+-- the entries of the map are those of the items by ascending ID, and the nodes that it knows are the IDs of the items
+pub record MapHolds {X : Type 0} (entry_in : Line → Option (ℤ × X)) (has : ℤ → Line → Bool) (map : Nodes X)
+    (items : List Line) : Type 0 where
+  pub entries_are : map.entries ≡ by_key (filter_map entry_in items)
+  pub known_are : (q : ℤ) → is_known map q ≡ list_any (has q) items
+
 -- the points of a `co` text
 abbrev pub points_body : TakerFacts (Nodes (ℤ × ℤ))
-points_body = record { kind = Co; Holds = λ points items. points.entries ≡ by_key (filter_map point_in items) }
+points_body = record { kind = Co; Holds = MapHolds point_in has_point }
 
 -- the table represents the arcs among the items, and a problem may have each of these arcs
 pub record TableHolds {B Arc : Type 0} (kind : ArcKind Arc) (arc_in : Line → Option ((ℤ × ℤ) × Arc))

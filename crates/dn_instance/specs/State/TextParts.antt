@@ -1,10 +1,7 @@
 -- What the parts of a text so far hold: its `n` lines, and its counted lines.
-use Rattle.std.specs.Prelude.{◌≡◌, ℕ, ◌<◌, ◌^◌, ℤ, pos, ◌||◌, List, [], ◌∷◌, ◌++◌, Bool, false, not, Option, Some, None, is_some, Result, OnOk}
-use Rattle.std.specs.BTreeSet as Set
-use Rattle.std.specs.List.{list_any}
+use Rattle.std.specs.Prelude.{◌≡◌, ℕ, ◌<◌, ◌^◌, ℤ, pos, List, [], ◌∷◌, ◌++◌, Bool, false, not, Option, Some, None, Result, OnOk}
 use Rattle.std.specs.List.Sorted.{IsStrictlySortedBy}
 use Rattle.std.specs.Map.{keys_of, lookup}
-use Rattle.std.specs.Ordering.{int_cmp}
 use Rattle.dn_line.specs.Faults.{first_fault}
 use Rattle.dn_line.specs.declared.kind.Kind.{Kind}
 use Rattle.dn_line.specs.declared.kind.Kind.TheVariants as Kinds
@@ -14,17 +11,16 @@ use Rattle.dn_arc.specs.Kinds.{lengths, capacities, costs}
 use Rattle.dn_arc.specs.Pairs.{pair_cmp, same_pair}
 use Rattle.dn_arc.specs.State.Curves.{CurveNumbers}
 use Rattle.dn_arc.specs.declared.arc.Form.TheVariants.{One}
-use Rattle.dn_nodes.specs.State.Nodes.{get}
 use Rattle.dn_bundle.specs.State.Listings.{least_arcs, total_arcs, curve_arcs}
 use Rattle.dn_bundle.specs.declared.least.Least.{Least}
 use Rattle.dn_bundle.specs.declared.total.Total.{Total}
-use Rattle.dn_instance.specs.Items.{Problem, problem_of, length_arc_in, cap_arc_in, cost_arc_in, supplies_of, terminal_of}
+use Rattle.dn_instance.specs.Items.{Problem, problem_of, length_arc_in, cap_arc_in, cost_arc_in, supply_in, terminal_of}
 use Rattle.dn_instance.specs.TextFaults.{has_supply, is_companion, item_tests}
 use Rattle.dn_instance.specs.EntryCount.{entries_as}
 use Rattle.dn_instance.specs.State.RowRuns.{counted_line}
 use Rattle.dn_line.specs.declared.row_block.RowLine.{RowLine}
 use Rattle.dn_instance.specs.declared.body.Taken.{Taken}
-use Rattle.dn_instance.specs.State.Bodies.{TakerFacts, TakesRows, TableHolds, ids_body, pairs_body, points_body}
+use Rattle.dn_instance.specs.State.Bodies.{TakerFacts, MapHolds, TakesRows, TableHolds, ids_body, pairs_body, points_body}
 use Rattle.dn_instance.specs.State.ItemFaults.{AnswersFault}
 use Rattle.dn_instance.specs.declared.body.Body.{Body}
 use Rattle.dn_instance.specs.declared.body.Body.TheVariants as Bodies
@@ -101,9 +97,7 @@ terminals_of _ source sink = Some (pos 0, pos 0)
 
 -- the `n` lines among these items make these marks
 pub record MarksHold (marks : Marks) (items : List Line) : Type 0 where
-  pub supplies_are : marks.supplies.entries ≡ supplies_of items
-  pub named_are : (q : ℤ) → (is_some (get marks.supplies q) || Set.contains int_cmp marks.idle q)
-      ≡ list_any (has_supply q) items
+  pub supplies : MapHolds supply_in has_supply marks.supplies items
   pub source_is : marks.source ≡ terminal_of S items
   pub sink_is : marks.sink ≡ terminal_of T items
 

@@ -1,4 +1,5 @@
--- Which value each node has: a link is one more than the position of a value, and 0 leads to none.
+-- Which value each node has: 0 is no link, 1 is the link of a node without a value, and any other link is two more than
+-- the position of a value.
 use Rattle.std.specs.Prelude.{nat_eq, ◌+◌, ◌*◌, ◌+ℤ◌, ◌<◌, ◌≤◌, ◌≤ℤ◌, ℕ, zero, suc, ℤ, pos, List, [], ◌∷◌, ◌++◌, cond, Option, Some, None, length, slice_get}
 use Rattle.std.specs.List.{AllByRecursion}
 
@@ -36,16 +37,22 @@ abbrev pub with_value : {V : Type 0} → ℤ → Option V → List (ℤ × V)
 with_value node None = []
 with_value node (Some v) = (node, v) ∷ []
 
--- the value at a link
+-- the value at a link, if there is one
 abbrev pub value_at : {V : Type 0} → List V → ℕ → Option V
 value_at values zero = None
-value_at values (suc position) = slice_get values position
+value_at values (suc zero) = None
+value_at values (suc (suc position)) = slice_get values position
 
--- the nodes with their values, by their links
+-- the value of a node, by its link
+abbrev pub linked : {V : Type 0} → List V → Option ℕ → Option V
+linked values None = None
+linked values (Some link) = value_at values link
+
+-- the nodes that have a value, by their links
 abbrev pub valued : {V : Type 0} → List (ℤ × ℕ) → List V → List (ℤ × V)
 valued [] values = []
 valued (e ∷ links) values = with_value e.0 (value_at values e.1) ++ valued links values
 
--- each link leads to a value
+-- no link leads beyond the values
 abbrev pub AreWithin : {V : Type 0} → List (ℤ × ℕ) → List V → Type 0
-AreWithin links values = AllByRecursion (λ (e : ℤ × ℕ). (0 < e.1) × (e.1 ≤ length values)) links
+AreWithin links values = AllByRecursion (λ (e : ℤ × ℕ). e.1 ≤ length values + 1) links

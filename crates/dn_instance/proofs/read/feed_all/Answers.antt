@@ -1,4 +1,4 @@
-use Rattle.std.proofs.Common.{◌≤◌, ◌^◌, [], ◌++◌, take, length, ◌∙◌, Err, refl, sym, ap, rules, arith, append-nil, length-append}
+use Rattle.std.proofs.Common.{◌≤◌, ◌^◌, [], ◌++◌, length, ◌∙◌, Err, refl, sym, ap, rules, arith, append-nil, length-append}
 use Rattle.std.proofs.KnownBytes.{Consumes-nil}
 use Rattle.dn_instance.specs.SourceReads.{after_pulls, unpulled, pulled}
 use Rattle.dn_instance.specs.declared.refusal.Refusal.TheVariants.{Endless}
@@ -22,14 +22,14 @@ loop-init g c = record {
 pub returns-then-is_empty-clause-fed : goal.returns-then-is_empty-clause-fed
 returns-then-is_empty-clause-fed g c =
     let fed = c.loop.invariant.fed in
-    let piece = take c.in-Ok.used c.pull.new.into in
-    let pull = c.in-Ok.ensures.ok in (
+    let piece = c.piece-piece.result.now in
+    let is = c.piece-piece.ensures in
+    let none = has_none piece _ c.is_empty.ensures c.if-is_empty.true in
+    let pull = c.in_default.ensures.ok in (
       fed.given,
       record {
-        gave =
-            given_all _ _ _ _ fed c.pull.new.self piece (has_none piece _ c.is_empty.ensures c.if-is_empty.true)
-            pull.bytes;
-        at_end = pull.end (search rules);
+        gave = given_all _ _ _ _ fed c.pull.new.self piece none (rw is pull.bytes);
+        at_end = pull.end (sym is ∙ none);
         read = fed.read;
         fine = fed.fine;
       },
@@ -39,51 +39,54 @@ returns-then-is_empty-clause-fed g c =
 pub returns-then-is_empty-clause-left : goal.returns-then-is_empty-clause-left
 returns-then-is_empty-clause-left g c =
     left_on _ _ _ _ c.loop.invariant.fed c.pull.new.self _ c.pull.ensures.pulls
-    (λ failed. c.in-Ok.ensures.ok.fine ∙ failed) (λ is. cc)
+    (λ failed. c.in_default.ensures.ok.fine ∙ failed) (λ is. cc)
 
 pub returns-in-Err-feed-clause-prefix : goal.returns-in-Err-feed-clause-prefix
 returns-in-Err-feed-clause-prefix g c = (
-  c.loop.invariant.fed.given ++ take c.in-Ok.used c.pull.new.into,
-  kept_more _ _ _ _ _ _ c.loop.invariant.kept c.in_default.ensures.ok,
+  c.loop.invariant.fed.given ++ c.piece-piece.result.now,
+  kept_more _ _ _ _ _ _ c.loop.invariant.kept c.in_default-keep.ensures.ok,
 )
 
 pub returns-in-Err-feed-clause-outcome : goal.returns-in-Err-feed-clause-outcome
 returns-in-Err-feed-clause-outcome g c =
     let fed = c.loop.invariant.fed in
-    let piece = take c.in-Ok.used c.pull.new.into in
-    let pull = c.in-Ok.ensures.ok in
-    let short : length piece ≤ 2 ^ 12 = search rules in
+    let piece = c.piece-piece.result.now in
+    let is = c.piece-piece.ensures in
+    let pull = c.in_default.ensures.ok in
+    let short : length piece ≤ 2 ^ 12 = rw is pull.bound in
     kept g.K.Keep.keeps _ _ (after_pulls g.S.Source.source c.args.source.now c.pull.new.self) (fed.given ++ piece)
     (g.K.Keep.kept c.args.text.now) (g.K.Keep.kept c.keep.new.self) (Err c.in-Err-feed.refusal) refl
-    (given_more _ _ _ _ fed c.pull.new.self piece pull.bytes)
-    (kept_more _ _ _ _ fed.given piece c.loop.invariant.kept c.in_default.ensures.ok)
-    (refused _ _ _ _ fed c.pull.new.self piece c.pull.ensures.pulls pull.bytes short c.in-Err-feed.refusal
+    (given_more _ _ _ _ fed c.pull.new.self piece (rw is pull.bytes))
+    (kept_more _ _ _ _ fed.given piece c.loop.invariant.kept c.in_default-keep.ensures.ok)
+    (refused _ _ _ _ fed c.pull.new.self piece c.pull.ensures.pulls (rw is pull.bytes) short c.in-Err-feed.refusal
     (c.in-Err-feed.ensures.fed fed.given fed.read)
     (λ memory. (c.in-Err-feed.ensures.memory fed.given fed.read fed.fine (ap (λ x. Err x) memory)).0))
 
 pub returns-in-Err-feed-clause-left : goal.returns-in-Err-feed-clause-left
 returns-in-Err-feed-clause-left g c =
     let fed = c.loop.invariant.fed in
-    left_on _ _ _ _ fed c.pull.new.self _ c.pull.ensures.pulls (λ failed. c.in-Ok.ensures.ok.fine ∙ failed)
+    left_on _ _ _ _ fed c.pull.new.self _ c.pull.ensures.pulls (λ failed. c.in_default.ensures.ok.fine ∙ failed)
     (λ is. absurd (refused_unread _ _ _ (c.in-Err-feed.ensures.fed fed.given fed.read) (cc)))
 
 pub loop-preserved : goal.loop-preserved
 loop-preserved g c =
     let fed = c.loop.invariant.fed in
-    let piece = take c.in-Ok.used c.pull.new.into in
-    let pull = c.in-Ok.ensures.ok in
+    let piece = c.piece-piece.result.now in
+    let is = c.piece-piece.ensures in
+    let pull = c.in_default.ensures.ok in
     let some = has_some piece _ c.is_empty.ensures c.if-is_empty.false in
     record {
       fed = record {
         given = fed.given ++ piece;
-        gave = given_more _ _ _ _ fed c.pull.new.self piece pull.bytes;
-        pulls = pulled c.loop.source c.pull.new.self piece fed.pulls c.pull.ensures.pulls pull.bytes some;
+        gave = given_more _ _ _ _ fed c.pull.new.self piece (rw is pull.bytes);
+        pulls =
+            pulled c.loop.source c.pull.new.self piece fed.pulls c.pull.ensures.pulls (rw is pull.bytes) some;
         stays = λ failed. pull.fine ∙ fed.stays failed;
         read = c.in_default-feed.ensures.stands fed.given fed.read;
         fine = not_refused _ c.in_default-feed.ensures.answer;
       };
       count = omega (arith, length-append fed.given piece, c.loop.invariant.count);
-      kept = kept_more _ _ _ _ _ _ c.loop.invariant.kept c.in_default.ensures.ok;
+      kept = kept_more _ _ _ _ _ _ c.loop.invariant.kept c.in_default-keep.ensures.ok;
     }
 
 pub returns-clause-outcome : goal.returns-clause-outcome

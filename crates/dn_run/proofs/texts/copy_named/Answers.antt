@@ -1,23 +1,28 @@
 use Rattle.std.proofs.Common.{refl, sym, ◌∙◌}
 use Rattle.dn_run.specs.FilesRuns.{read, unopened}
+use Rattle.dn_run.specs.State.CommandRuns.{taken_text}
+use Rattle.dn_run.specs.State.TextReads.{IsCopied}
+use Rattle.dn_run.proofs.OutcomeLaws.{by_name}
 use Rattle.dn_run.proofs.ReadLaws.{came, handed_copies, handed_copy}
 use Rattle.dn_run.proofs.texts.copy_named.Goals as goal
 
 pub returns-in-Ok-clause-read : goal.returns-in-Ok-clause-read
 returns-in-Ok-clause-read g c =
-    handed_copies _ _
-    (came c.in-Ok.text c.in-Ok.ensures.hands c.read_keep-read.ensures.left.pulls
-    (c.take.new.self, c.give_back.ensures))
-    (c.give_back.ensures.faults c.args.name.now ∙ c.in-Ok.ensures.ok) _ _ _ c.read_keep-read.result c.requires
-    c.in-Ok.ensures.text c.read_keep-read.ensures.outcome c.read_keep-read.ensures.left.read
-    c.read_keep-read.ensures.held
-
-pub returns-in-Ok-clause-copy : goal.returns-in-Ok-clause-copy
-returns-in-Ok-clause-copy g c fine =
-    handed_copy _ _ _ _ _ c.read_keep-read.result c.requires c.in-Ok.ensures.text c.read_keep-read.ensures.outcome
-
-pub returns-in-Ok-clause-copied : goal.returns-in-Ok-clause-copied
-returns-in-Ok-clause-copied g c = rw c.requires at c.read_keep-read.ensures.held
+    let text = taken_text g.F.Files.files g.F.Text.Source.source (c.args.files.now, c.give_back.new.self)
+    c.args.name.now in
+    by_name (IsCopied text c.read_keep-read.new.text.items) _ _ _ c.or_stop.ensures (record {
+      read =
+          handed_copies _ _
+          (came c.in-Ok.text c.in-Ok.ensures.hands c.read_keep-read.ensures.left.pulls
+          (c.take.new.self, c.give_back.ensures))
+          (c.give_back.ensures.faults c.args.name.now ∙ c.in-Ok.ensures.ok) _ _ _ c.read_keep-read.result c.requires
+          c.in-Ok.ensures.text c.read_keep-read.ensures.outcome c.read_keep-read.ensures.left.read
+          c.read_keep-read.ensures.held c.read_keep-read.ensures.refusal;
+      same = λ fine.
+          handed_copy _ _ _ _ _ c.read_keep-read.result c.requires c.in-Ok.ensures.text
+          c.read_keep-read.ensures.outcome;
+      copied = rw c.requires at c.read_keep-read.ensures.held;
+    })
 
 pub returns-in-Ok-clause-asks : goal.returns-in-Ok-clause-asks
 returns-in-Ok-clause-asks g c = record {

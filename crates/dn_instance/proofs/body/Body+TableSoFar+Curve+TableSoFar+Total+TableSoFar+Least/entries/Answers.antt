@@ -35,4 +35,5 @@ returns-in-P2p c =
 
 pub returns-in-Co : goal.returns-in-Co
 returns-in-Co c =
-    counted_by points_part c.in-Co.points _ (λ items h few. c.len-in-Co.ensures.value ∙ ap length h) _ c.in-Co.is
+    counted_by points_part c.in-Co.points _ (λ items h few. c.len-in-Co.ensures.value ∙ ap length h.entries_are) _
+    c.in-Co.is

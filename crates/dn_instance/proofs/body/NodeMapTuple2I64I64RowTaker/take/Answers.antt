@@ -1,4 +1,4 @@
-use Rattle.std.proofs.Common.{◌≡◌, ◌∙◌, arith, to_z, of_z, w64}
+use Rattle.std.proofs.Common.{◌≡◌, arith, to_z, of_z, w64}
 use Rattle.std.proofs.lemmas.Int.{ints}
 use Rattle.std.proofs.lemmas.Result.{on_err_weaker}
 use Rattle.dn_instance.proofs.BodyLaws.{points_took}
@@ -12,4 +12,4 @@ returns-clause-taken c before a =
     points_took c.args._nodes.now _ _ c.args.row.now _ before c.insert_point.ensures.answer ok a
 
 pub returns-clause-unchanged : goal.returns-clause-unchanged
-returns-clause-unchanged c = on_err_weaker c.insert_point.result (λ e items h. e ∙ h) c.insert_point.ensures.err
+returns-clause-unchanged c = on_err_weaker c.insert_point.result (λ e items h. rw e h) c.insert_point.ensures.err

@@ -3,10 +3,9 @@ use Rattle.dn_instance.proofs.marks.Marks.take_supply.Goals as goal
 
 pub returns-clause-taken : goal.returns-clause-taken
 returns-clause-taken c =
-    let took = c.insert_supply.ensures in
-    supply_taken c.args.nodes.now c.args.id.now c.args.flow.now c.args.self.now _ _ _ took.answer took.supplies
-    took.idle
+    supply_taken c.args.nodes.now c.args.id.now c.args.flow.now c.args.self.now _ _ c.insert_supply.ensures.answer
+    c.insert_supply.ensures.ok
 
 pub returns-clause-unchanged : goal.returns-clause-unchanged
 returns-clause-unchanged c =
-    supply_same c.args.nodes.now c.args.id.now c.args.flow.now c.args.self.now _ _ _ c.insert_supply.ensures.err
+    supply_same c.args.nodes.now c.args.id.now c.args.flow.now c.args.self.now _ _ c.insert_supply.ensures.err

@@ -7,4 +7,4 @@ pub returns-clause-rising : goal.returns-clause-rising
 returns-clause-rising g c =
     let s = c.self.inside in
     subst (λ (n : Nodes g.row.V.Denot). Rises n.entries) c.self.view_is
-    (rises_valued s.links s.values.items c.self.invariant.1 c.self.invariant.0)
+    (rises_valued s.links s.values.items c.self.invariant.0)

@@ -14,7 +14,7 @@ loop-entry-preserved g c =
     let i = c.loop-entry.entry-index in
     let key = ap (λ (k : ℤ × ℤ). keys_of (take i es) ++ k ∷ []) (ap (λ e. e.0) c.entry-item.is) in
     subst (IsChained c.link.new.self) (key ∙ sym (keys_take_more es i c.entry-item.result c.loop-entry-test.true))
-    (c.link.ensures (keys_of (take i es)) c.loop-entry.invariant)
+    (c.link.ensures.linked (keys_of (take i es)) c.loop-entry.invariant)
 
 pub returns : goal.returns
 returns g c linked =

@@ -1,4 +1,4 @@
-use Rattle.std.proofs.Common.{◌≡◌, true, length, refl, sym}
+use Rattle.std.proofs.Common.{length, refl, sym}
 use Rattle.std.specs.Map.{keys_of}
 use Rattle.std.proofs.lemmas.Map.Entries.{length-keys_of}
 use Rattle.pair_index.proofs.IndexLaws.{apart_more, positions_more}
@@ -25,15 +25,12 @@ returns-else-not-stays-clause-taken g c is =
       shows = rw is at c.take-in-Tails.ensures.taken refl;
     }
 
-pub returns-in-Chained-clause-taken : goal.returns-in-Chained-clause-taken
-returns-in-Chained-clause-taken g c is =
+pub returns-else-is_full-clause-taken : goal.returns-else-is_full-clause-taken
+returns-else-is_full-clause-taken g c is =
     let keys = keys_of c.args.entries.now in
-    let taken : c.take-in-Chained.result ≡ true = cc in
     record {
       apart = apart_more keys c.args.pair.now c.requires.indexed.apart c.requires.fresh;
-      shows =
-          c.take-in-Chained.ensures.taken taken keys
-          (rw c.in-Chained.is at c.requires.indexed.shows);
+      shows = c.take-in-Chained.ensures.taken is;
     }
 
 pub returns-in_ok-insert-in-Ordered-clause-taken : goal.returns-in_ok-insert-in-Ordered-clause-taken

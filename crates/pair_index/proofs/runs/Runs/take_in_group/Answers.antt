@@ -1,8 +1,8 @@
-use Rattle.std.proofs.Common.{◌≡◌, ◌-◌, ◌<◌, ◌≤◌, length, drop, sym, ap, ◌∙◌}
+use Rattle.std.proofs.Common.{◌≡◌, ◌-◌, ◌<◌, ◌≤◌, length, sym, ap, ◌∙◌}
 use Rattle.std.specs.Map.{keys_of}
 use Rattle.std.proofs.lemmas.Map.Entries.{length-keys_of}
 use Rattle.pair_index.specs.State.Positions.{key_at}
-use Rattle.pair_index.proofs.RunLaws.{end_tail, group_more, linked_on, opened}
+use Rattle.pair_index.proofs.RunLaws.{end_tail, group_linked, group_more, linked_back, linked_more, opened}
 use Rattle.pair_index.proofs.runs.Runs.take_in_group.Goals as goal
 
 pub returns-then-entries-self-lt-FEW-clause-taken : goal.returns-then-entries-self-lt-FEW-clause-taken
@@ -16,18 +16,31 @@ returns-then-entries-self-lt-FEW-clause-taken g c is =
     ∙ end_tail runs.falls keys runs.begin group p in
     rw c.in-Few.is (group_more runs.falls keys runs.begin group p tail)
 
-pub returns-then-take-clause-taken : goal.returns-then-take-clause-taken
-returns-then-take-clause-taken g c is =
+pub take-requires : goal.take-requires
+take-requires g c =
     let runs = c.args.self.now in
-    let keys = keys_of c.args.entries.now in
+    group_linked runs.begin c.args.entries.now c.in-Linked.chains (rw c.in-Linked.is at c.requires.shows).1
+
+pub returns-in-Linked-clause-taken : goal.returns-in-Linked-clause-taken
+returns-in-Linked-clause-taken g c is =
+    let runs = c.args.self.now in
+    let es = c.args.entries.now in
+    let keys = keys_of es in
     let p = c.args.pair.now in
-    let shown = rw c.in-Linked.is at c.requires.shows in
-    let tail : p.0 ≡ shown.0.tail =
-    sym c.requires.tail ∙ ap (λ n. (key_at keys (n - 1)).0) (sym (length-keys_of c.args.entries.now))
-    ∙ end_tail runs.falls keys runs.begin shown.0 p in (
-      group_more runs.falls keys runs.begin shown.0 p tail,
-      linked_on runs.falls keys runs.begin shown.0 p c.take.new.self
-          (c.take.ensures.taken c.if-take.true (drop runs.begin keys) shown.1),
+    let group = (rw c.in-Linked.is at c.requires.shows).0 in
+    let tail : p.0 ≡ group.tail =
+    sym c.requires.tail ∙ ap (λ n. (key_at keys (n - 1)).0) (sym (length-keys_of es))
+    ∙ end_tail runs.falls keys runs.begin group p in (
+      group_more runs.falls keys runs.begin group p tail,
+      linked_more runs.begin es runs.falls p c.take.new.self group (c.take.ensures.taken is),
+    )
+
+pub returns-in-Linked-clause-not : goal.returns-in-Linked-clause-not
+returns-in-Linked-clause-not g c isnt =
+    let runs = c.args.self.now in
+    let shown = rw c.in-Linked.is at c.requires.shows in (
+      shown.0,
+      linked_back runs.begin c.args.entries.now c.take.new.self (c.take.ensures.not isnt),
     )
 
 pub returns-else-is_past-clause-taken : goal.returns-else-is_past-clause-taken

@@ -1,2 +1,0 @@
-// The lines that commands print.
-pub mod examples;

@@ -1,2 +1,0 @@
-// Rows of a text.
-pub mod examples;
