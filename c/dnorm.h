@@ -12,7 +12,8 @@
        ..
        dnorm_free(&graph);
 
-   Each function is proved to do what its comment says, as long as the caller keeps these rules, which nothing checks:
+   Each function but dnorm_abi is proved to do what its comment says, if the caller keeps these rules, which nothing
+   checks:
 
    1. A `dnorm` begins as DNORM_NONE, which is all zeros. Only these functions change it. It is passed by its address,
       and is not copied: both copies would own the same memory. A move is allowed if the old place is not used again.
