@@ -218,7 +218,7 @@ Usual causes that the line itself does not show:
   NoProblem                  FILE is empty, or its lines end in CR alone.
   TooManyLines, TooFewLines  Only a, s, q and v lines count.
   bad command line           Several files: a command takes one, compare two.
-                             The manual has a recipe for folders.
+                             dnorm-files takes any number, and folders.
 
 dnorm-explain prints the line that a refusal names, and such causes:
   dnorm check FILE 2>&1 | dnorm-explain";
