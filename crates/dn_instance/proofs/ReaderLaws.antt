@@ -2,7 +2,8 @@
 use Rattle.dn_instance.specs.State.Helds.{Parsed}
 use Rattle.std.proofs.Common.{◌≡◌, ℕ, ◌+◌, ◌≤◌, List, [], ◌∷◌, ◌++◌, length, take, drop, Option, Some, None, Ok, Err, Result, MatchOption, inl, inr, refl, sym, ap, ◌∙◌, subst, arith, length-append, append-nil, append_assoc, pos, take_all, true, IfOk, take-add}
 use Rattle.std.proofs.Math.Seq.{take-append_seam}
-use Rattle.std.proofs.lemmas.List.{take-append-le}
+use Rattle.std.proofs.lemmas.Grind.{flat_map-append}
+use Rattle.std.proofs.lemmas.List.{take-append-drop, take-append-le}
 use Rattle.dn_line.specs.declared.code.Code.{Code}
 use Rattle.dn_line.specs.Words.{said_words}
 use Rattle.dn_line.specs.Pieces.{lines, parts, is_line_feed}
@@ -15,7 +16,7 @@ use Rattle.dn_instance.specs.declared.refusal.Refusal.TheVariants.{Text, Memory}
 use Rattle.dn_instance.specs.State.ItemFaults.{AnswersFault}
 use Rattle.dn_instance.specs.Readers.{SpellsNeed, ended}
 use Rattle.dn_instance.specs.State.ReaderResults.{lines_taken, IsNext, EntriesBefore, IsRefused, Fed, Outcome, fed_answer}
-use Rattle.dn_instance.specs.State.ReaderStates.{StopsIn, ClosesLine, TakesAll, IsReading, ReaderAt, Advances, HasOpen, Steps, open_of}
+use Rattle.dn_instance.specs.State.ReaderStates.{StopsIn, ClosesLine, TakesAll, IsReading, ReaderAt, Advances, HasOpen, open_of}
 use Rattle.dn_instance.specs.State.LineRefusals.{refused_at}
 use Rattle.dn_instance.specs.TextFaults.{line_fault}
 use Rattle.dn_instance.specs.Texts.{items_of, IsClean, IsFirstFaultAt}
@@ -222,53 +223,43 @@ with_rows r t piece front line none f =
       line = subst (HasOpen r.line) (none ∙ sym (ap (λ (p : Parts). p.1) all)) line;
     }
 
-pub to_steps : (r : Reader) (t piece : List ℕ) (result : Result ℕ Refusal) → IfOk result (λ n. n ≡ used_of piece)
-    → Advances r t (t ++ take (used_of piece) piece) result → Steps r t piece result
-to_steps r t piece (Ok n) u a = subst (λ k. IsReading r (t ++ take k piece)) (sym u) a
-to_steps r t piece (Err e) u a = (used_of piece, a)
-
--- one more line
-closed_push : (more : List (List ℕ)) (l : List ℕ) → closed_lines (more ++ l ∷ []) ≡ closed_lines more ++ (l ++ 10 ∷ [])
-closed_push [] l = append-nil (l ++ 10 ∷ [])
-closed_push (m ∷ more) l =
-    ap (λ x. (m ++ 10 ∷ []) ++ x) (closed_push more l)
-    ∙ sym (append_assoc (m ++ 10 ∷ []) (closed_lines more) (l ++ 10 ∷ []))
-
 inner_push : (more : List (List ℕ)) (l : List ℕ) → AreInner more → list_all is_inner l ≡ true
     → AreInner (more ++ l ∷ [])
 inner_push [] l h i = (i, tt)
 inner_push (m ∷ more) l h i = (h.0, inner_push more l h.1 i)
 
+-- lines with their LFs that follow the complete lines are the first complete lines of what follows
+more_on : (t : List ℕ) (all : List (List ℕ)) (rest piece : List ℕ) → open_of t ≡ [] → AreInner all
+    → closed_lines all ++ rest ≡ piece → More (ended t ++ all) (ended (t ++ piece))
+more_on t all rest piece none inner e =
+    rw (← e, ← append_assoc, ← ap (λ (p : Parts). p.0) (closed_more t all none inner))
+    (ended_more (t ++ closed_lines all) rest)
+
 -- a row of the piece is refused, and the reader keeps its refusal
 pub front_refused : (r : Reader) (t piece : List ℕ) (front : RowsTaken) (fault : ItemFault) (e : Refusal)
     → open_of t ≡ []
     → front.fault ≡ Some fault → ReadsRows r.text (ended t) piece front → r.refusal ≡ Some e
-    → ((ls : List (List ℕ)) → TextAt r.text ls → e ≡ refused_at (length ls + 1) fault) → Steps r t piece (Err e)
+    → ((ls : List (List ℕ)) → TextAt r.text ls → e ≡ refused_at (length ls + 1) fault)
+    → (n : ℕ) × Unit {0} × Advances r t (t ++ take n piece) (Err e)
 front_refused r t piece front fault e none is reads refusal said =
     let ls = ended t ++ reads.more in
     let s : IsRefusedRow ls (drop front.used piece) fault =
     subst (RefusesRow ls (drop front.used piece)) is reads.stops in
-    let line = s.line ++ 10 ∷ [] in
+    let long = length-append (ended t) reads.more in
     let all = reads.more ++ s.line ∷ [] in
-    let bytes : take (front.used + length line) piece ≡ closed_lines all =
-    take-add front.used (length line) piece
-    ∙ ap (λ x. x ++ take (length line) (drop front.used piece)) (sym reads.whole)
-    ∙ ap (λ x. closed_lines reads.more ++ take (length line) x)
-    (sym s.whole ∙ sym (append_assoc s.line (10 ∷ []) s.rest))
-    ∙ ap (λ x. closed_lines reads.more ++ x) (take-append_seam line s.rest) ∙ sym (closed_push reads.more s.line) in
-    let lines : ended (t ++ take (front.used + length line) piece) ≡ ls ++ s.line ∷ [] =
-    ap (λ x. ended (t ++ x)) bytes
-    ∙ ap (λ (p : Parts). p.0) (closed_more t all none (inner_push reads.more s.line reads.inner s.inner))
-    ∙ sym (append_assoc (ended t) reads.more (s.line ∷ [])) in
-    let takes = refuses_next r ls s.line fault e reads.read refusal (said ls reads.read) s.answer s.needs in
-    let more : length ls ≡ length (ended t) + length reads.more = length-append (ended t) reads.more in (
-      front.used + length line,
+    let whole : closed_lines all ++ s.rest ≡ take (length piece) piece =
+    rw (flat_map-append _ reads.more (s.line ∷ []), reads.whole, append-nil, append_assoc, append_assoc, s.whole)
+    (take-append-drop front.used piece ∙ sym (take_all (length piece) piece (omega arith))) in
+    let m : More (ls ++ s.line ∷ []) (ended (t ++ take (length piece) piece)) =
+    rw append_assoc
+    (more_on t all s.rest _ none (inner_push reads.more s.line reads.inner s.inner) whole) in
+    let takes = refuses_next r ls s.line fault e reads.read refusal (said ls reads.read) s.answer s.needs in (
+      length piece,
+      tt,
       (
         takes.0,
-        subst (λ x. IsRefused (length (ended t)) x e) (sym lines)
-            (refused_on (length ls) (length (ended t)) (ls ++ s.line ∷ []) (ls ++ s.line ∷ []) e (omega arith)
-            (record { rest = []; whole = sym (append-nil (ls ++ s.line ∷ [])) }) takes.1),
-        subst (λ x. StopsIn r x e) (sym lines) takes.2,
-        (let n = takes.3 in omega arith),
+        refused_on (length ls) (length (ended t)) (ls ++ s.line ∷ []) _ e (omega (arith, long)) m takes.1,
+        stops_on r (ls ++ s.line ∷ []) _ e m takes.2,
+        omega (arith, long, takes.3),
       ),
     )

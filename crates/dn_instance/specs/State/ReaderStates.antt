@@ -77,12 +77,6 @@ abbrev pub KeepsRefusal : {T : Type 0} → Reader → Reader → Result T Refusa
 KeepsRefusal old new result =
     MatchResult result (λ x. refusal_of new ≡ refusal_of old) (λ e. refusal_of new ≡ Some e)
 
--- after t, the reader has read the first n bytes of the piece, or it keeps the refusal of a line that is complete in
--- the first bytes of the piece
-abbrev pub Steps : Reader → List ℕ → List ℕ → Result ℕ Refusal → Type 0
-Steps r t piece (Ok n) = IsReading r (t ++ take n piece)
-Steps r t piece (Err e) = (n : ℕ) × Advances r t (t ++ take n piece) (Err e)
-
 -- if memory runs out in a piece, it runs out at a line that was not complete before the piece, and the reader has taken
 -- all lines that were complete before it
 abbrev pub WantsInPiece : Reader → Reader → List ℕ → Result (Unit {0}) Refusal → Type 0

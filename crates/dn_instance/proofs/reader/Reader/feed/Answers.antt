@@ -29,7 +29,7 @@ refused_within c t reads =
     let u = t ++ take i p in
     let stopped = c.in-Err.ensures.advances u reads in
     let n = stopped.0 in
-    let a = stopped.1 in
+    let a = stopped.2 in
     let e = c.in-Err.refusal in (
       a.0,
       refused_on (length (ended u)) (length (ended t)) (ended (u ++ take n (rest_of p i))) (ended (t ++ p)) e
@@ -63,8 +63,9 @@ pub loop-at-preserved : goal.loop-at-preserved
 loop-at-preserved c = record {
   within = omega (arith, c.in-Ok.ensures.bound, rest_len c.args.piece.now c.loop-at.at, c.loop-at-test.true);
   fine = c.in-Ok.ensures.refusal ∙ c.loop-at.invariant.fine;
-  reads = λ t h. rw (step_on t c.args.piece.now c.loop-at.at c.in-Ok.used) at
-      (c.in-Ok.ensures.advances (t ++ take c.loop-at.at c.args.piece.now) (c.loop-at.invariant.reads t h));
+  reads = λ t h.
+      let on = c.in-Ok.ensures.advances (t ++ take c.loop-at.at c.args.piece.now) (c.loop-at.invariant.reads t h) in
+      rw (on.1, ← step_on t c.args.piece.now c.loop-at.at on.0) on.2;
 }
 
 pub returns-clause-fed : goal.returns-clause-fed
