@@ -13,7 +13,7 @@ ghost use Rattle.dn_line.specs.State.LineStates.{LineSoFar, LineReaderAt};
 ghost use Rattle.dn_line.specs.State.RowItems.{problem_item};
 ghost use Rattle.dn_instance.specs.Items.{problem_in};
 ghost use Rattle.dn_instance.specs.TextFaults.{order_tests, line_fault};
-ghost use Rattle.dn_instance.specs.State.Bodies.{Awaits, TookRows};
+ghost use Rattle.dn_instance.specs.State.Bodies.{Keeps, TakesRows};
 ghost use Rattle.dn_instance.specs.State.Ends.{EndsWith};
 ghost use Rattle.dn_instance.specs.EntryCount.{entries_so_far};
 ghost use Rattle.dn_instance.specs.State.Declarations.{declared_in};
@@ -21,7 +21,7 @@ ghost use Rattle.dn_instance.specs.Readers.{SpellsNeed};
 ghost use Rattle.dn_instance.specs.State.ItemFaults.{AnswersFault};
 ghost use Rattle.dn_instance.specs.Texts.{items_of, with_next};
 ghost use Rattle.dn_instance.specs.State.RowRuns.{IsRowHead, row_items, row_line, run_head};
-ghost use Rattle.dn_instance.specs.State.TextsSoFar.{AfterLines, AtLine, Declares, HasRead, IsOfRun, IsOrderFault, NeedsAfter, NextRead, ReadsRows, TakesItem, TakesRowOf, TakesRun, TextAt, fault_after, fault_next, text_kind};
+ghost use Rattle.dn_instance.specs.State.TextsSoFar.{AfterLines, AtLine, Declares, HasRead, IsOfRun, IsOrderFault, NeedsAfter, NextRead, ReadsRows, RoomFor, TakesItem, TakesRowOf, TextAt, fault_after, fault_next, text_kind};
 
 use crate::body::{Body, Taken, take_rows};
 use crate::declared::Declared;
@@ -156,8 +156,9 @@ impl TextSoFar {
     // Takes rows of lines with this head one after another, up to the first that has a fault or for which an allocation
     // fails.
     fn take_run(&mut self, alloc: Global, head: Head, rows: &[RowLine]) -> Taken
-        ensures taken { TakesRun self.old self.new head rows.now result }
-        ensures unchanged { result.rows ≡ 0 → (before : List Line) → HasRead self.old before → HasRead self.new before }
+        ensures taken { (kind : Kind) → IsRowHead kind head → RoomFor head rows.now self.old → TakesRows kind
+            (row_line kind head) self.old.nodes (HasRead self.old) (HasRead self.new) rows.now result }
+        ensures unchanged { result.rows ≡ 0 → Keeps (HasRead self.old) (HasRead self.new) }
         ensures within { MatchOption result.fault (result.rows ≤ length rows.now)
             (λ f. result.rows < length rows.now) }
         ensures kept { self.new.closed ≡ self.old.closed }

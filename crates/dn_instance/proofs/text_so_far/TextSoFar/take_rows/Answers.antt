@@ -7,7 +7,7 @@ use Rattle.dn_instance.specs.Texts.{items_of}
 use Rattle.dn_instance.proofs.FirstFaults.{none_from}
 use Rattle.dn_instance.proofs.ItemSteps.{kind_agrees, problem_agrees, with_lines}
 use Rattle.dn_instance.proofs.RowLinesLaws.{SpellsRows, front_read, none_read, rows_spell, run_head_is, run_signs}
-use Rattle.dn_instance.proofs.RowRunLaws.{room_for, within_all}
+use Rattle.dn_instance.proofs.RowRunLaws.{awaits_as, room_for, within_all}
 use Rattle.dn_instance.proofs.OrderLaws.{come_in_time}
 use Rattle.dn_instance.proofs.text_so_far.TextSoFar.take_rows.Goals as goal
 
@@ -43,19 +43,14 @@ returns-clause-taken c ls at =
     come_in_time kind head rows items p row problem
     (λ counts. omega (arith, ints, room counts, at.items_are.due_is)) first in
     let took =
-    c.take_run-taken.ensures.taken kind items row room (record {
-      problem = p;
-      problem_is = problem;
-      kind_is = refl;
-      nodes_are = refl;
-      signs = run_signs kind byte head row spell rows bytes read.0 all;
-      holds = (is, at.items_are);
-    }) in
+    c.take_run-taken.ensures.taken kind row room items
+    (awaits_as self kind items _ at.items_are is (run_signs kind byte head row spell rows bytes read.0 all))
+    at.items_are in
     let within = within_all t.fault m n c.take_run-taken.ensures.within in
     let short : length ls + n < 2 ^ 63 - 2 =
     omega (arith, c.rows-rows.ensures.few, at.number_is, c.has_room.ensures.room c.if-not-has_room.false) in
     front_read kind byte head row spell _ rows t bytes read.0 ls p c.rows_taken_of.result all at.clean
     problem refl took.joins.faultless early took.stops within short
     (ap (λ k. k + m) (c.take_run-taken.ensures.kept ∙ at.number_is))
-    (with_lines c.take_run-taken.new.self _ _ took.joins.holds.1) c.rows_taken_of.ensures.used
+    (with_lines c.take_run-taken.new.self _ _ took.joins.holds) c.rows_taken_of.ensures.used
     c.rows_taken_of.ensures.fault
