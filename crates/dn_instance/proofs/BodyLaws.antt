@@ -1,5 +1,5 @@
 -- Lemmas on taking one row into a body, and on a body of one kind as a body of any kind.
-use Rattle.std.proofs.Common.{◌≡◌, ℤ, List, [], ◌∷◌, ◌++◌, Bool, true, not, int_lt, ◌&&◌, IsTrue, ◌↔◌, Option, Some, Result, Err, OnOk, OnErr, refl, sym, ap, ◌∙◌, subst, Vec, Global, ◌^◌, pos, arith, inl, inr, ◌<◌, filter_map, length-append, ℕ, length}
+use Rattle.std.proofs.Common.{◌≡◌, ℤ, List, [], ◌∷◌, ◌++◌, Bool, true, not, int_lt, ◌&&◌, IsTrue, ◌↔◌, Option, Some, Result, Err, OnOk, OnErr, refl, sym, ap, ◌∙◌, subst, ◌^◌, pos, arith, inl, inr, ◌<◌, filter_map, length-append, ℕ, length}
 use Rattle.std.proofs.lemmas.Result.{on_err_weaker, on_ok_weaker}
 use Rattle.dn_line.specs.Faults.{first_fault}
 use Rattle.dn_line.specs.declared.code.Code.{Code}
@@ -15,9 +15,9 @@ use Rattle.dn_nodes.specs.State.Nodes.{Gains, Nodes, is_known}
 use Rattle.dn_table.specs.State.Tables.{AreArcs, GraphNeedsMore, TableLists, Stays}
 use Rattle.dn_instance.specs.Items.{arcs_of, length_arc_in, cap_arc_in, cost_arc_in, Problem, problem_of, point_in, by_key}
 use Rattle.dn_instance.specs.TextFaults.{has_point, is_companion, item_tests}
-use Rattle.dn_instance.specs.State.Bodies.{Awaits, IsArcOfRow, Keeps, ListHolds, MapHolds, TableHolds, TookRow}
+use Rattle.dn_instance.specs.State.Bodies.{Awaits, IsArcOfRow, Keeps, MapHolds, TableHolds, TookRow}
 use Rattle.dn_instance.specs.State.ItemFaults.{AnswersFault, arc_fault, id_fault, in_graph, pair_fault, point_fault}
-use Rattle.dn_instance.specs.State.RowRuns.{counted_line, row_items}
+use Rattle.dn_instance.specs.State.RowRuns.{counted_line}
 use Rattle.dn_instance.specs.declared.refusal.ItemFault.{ItemFault}
 use Rattle.dn_instance.specs.declared.refusal.ItemFault.TheVariants.{Memory}
 use Rattle.dn_instance.proofs.ValidLaws.{grown}
@@ -44,9 +44,6 @@ use Rattle.dn_instance.proofs.MapLaws.{by_key_push, one_more_key, found_by_key, 
 use Rattle.dn_instance.proofs.ItemSteps.{problem_all}
 use Rattle.std.proofs.lemmas.Bool.{not-false}
 use Rattle.dn_instance.proofs.MarksLaws.{map_gains, on_ok_from}
-use Rattle.dn_line.specs.declared.row_block.RowLine.{RowLine}
-use Rattle.dn_instance.specs.declared.body.Body.TheVariants as Bodies
-use Rattle.dn_instance.specs.declared.body.Taken.{Taken}
 
 no_arcs_more : {A : Type 0} (xs : List A) (a : A) → xs ++ a ∷ [] ≡ [] → ⊥
 no_arcs_more [] a e = cc

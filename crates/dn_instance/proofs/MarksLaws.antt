@@ -1,5 +1,5 @@
 -- Lemmas on `n` lines: what the marks hold after them, and that other lines keep what the marks hold.
-use Rattle.std.proofs.Common.{arith, ◌≡◌, ℤ, List, [], ◌∷◌, ◌++◌, true, false, ◌||◌, not, Option, Some, None, is_some, IsSome, Result, Ok, Err, OnOk, OnErr, refl, sym, ap, ◌∙◌, append-nil, append_assoc, inr, filter_map, pos, Bool, cond, int_cmp, int_eq, option_map, rules}
+use Rattle.std.proofs.Common.{arith, ◌≡◌, ℤ, List, [], ◌∷◌, ◌++◌, true, false, ◌||◌, not, Option, Some, None, is_some, IsSome, Result, Ok, Err, OnOk, OnErr, refl, sym, ◌∙◌, append-nil, append_assoc, inr, filter_map, pos, Bool, cond, int_cmp, int_eq, option_map, rules}
 use Rattle.dn_instance.proofs.CleanItems.{or_none}
 use Rattle.dn_instance.proofs.ValidLaws.{terminal_more, kept, grown}
 use Rattle.std.specs.List.{AllByRecursion}
@@ -23,7 +23,7 @@ use Rattle.dn_instance.specs.State.Bodies.{Keeps, MapHolds, TakesRow, TableHolds
 use Rattle.dn_instance.specs.State.TextParts.{AnyBody, BodyHolds, MarksHold, body_kind}
 use Rattle.dn_instance.specs.State.TextsSoFar.{HoldsBody}
 use Rattle.dn_instance.specs.State.ItemFaults.{AnswersFault, in_graph, terminal_fault, supply_fault}
-use Rattle.dn_instance.specs.State.RowRuns.{counted_line, row_items, supply_line}
+use Rattle.dn_instance.specs.State.RowRuns.{counted_line, row_items}
 use Rattle.dn_instance.specs.declared.body.Body.TheVariants as Bodies
 use Rattle.dn_instance.specs.declared.marks.Marks.{Marks}
 use Rattle.dn_instance.specs.declared.refusal.ItemFault.{ItemFault}

@@ -31,7 +31,6 @@ use Rattle.dn_instance.proofs.ItemSteps.{body_read, has_due, marks_read, kind_ag
 use Rattle.dn_instance.specs.State.Bodies.{AnswersItem, Awaits, Keeps, StopsAtRow, TakesRow, TakesRows, TookRow, TookRows}
 use Rattle.dn_instance.specs.declared.body.Taken.{Taken}
 use Rattle.dn_instance.specs.declared.refusal.ItemFault.{ItemFault}
-use Rattle.dn_instance.specs.declared.refusal.ItemFault.TheVariants as ItemFaults
 
 -- items without a fault, followed by one more, have no fault
 faultless_more : (before items : List Line) (i : Line) → AreFaultless before items

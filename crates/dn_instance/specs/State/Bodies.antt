@@ -1,21 +1,18 @@
 -- What the lines of a text make, and how rows change it.
-use Rattle.std.specs.Prelude.{◌≡◌, ◌<◌, ◌^◌, ℕ, ℤ, List, [], ◌∷◌, ◌++◌, Bool, IsTrue, ◌↔◌, filter_map, take, drop, Option, Some, None, Result, Err, OnOk, Vec}
+use Rattle.std.specs.Prelude.{◌≡◌, ℤ, List, [], ◌∷◌, ◌++◌, Bool, IsTrue, ◌↔◌, filter_map, take, drop, Option, Some, None, Result, Err, OnOk, Vec}
 use Rattle.std.specs.Global.{Global}
 use Rattle.std.specs.List.{AllByRecursion, list_any}
 use Rattle.dn_line.specs.Faults.{first_fault}
 use Rattle.dn_line.specs.declared.code.Code.{Code}
 use Rattle.dn_line.specs.declared.kind.Kind.{Kind}
-use Rattle.dn_line.specs.declared.kind.Kind.TheVariants.{Ss, P2p, Co}
 use Rattle.dn_line.specs.declared.line.Line.{Line}
 use Rattle.dn_line.specs.declared.row.Row.{Row}
 use Rattle.dn_line.specs.declared.row_block.RowLine.{RowLine}
 use Rattle.dn_arc.specs.Kinds.{ArcKind}
-use Rattle.dn_arc.specs.State.Bundles.{BundleFacts, meant}
 use Rattle.dn_nodes.specs.State.Nodes.{Nodes, is_known}
 use Rattle.dn_table.specs.State.Tables.{AreArcs, GraphNeedsMore, Stays, TableLists}
-use Rattle.dn_instance.specs.Items.{Problem, problem_of, arcs_of, source_in, query_in, point_in, by_key}
-use Rattle.dn_instance.specs.TextFaults.{has_point, item_tests}
-use Rattle.dn_instance.specs.EntryCount.{entries_by}
+use Rattle.dn_instance.specs.Items.{Problem, problem_of, arcs_of, by_key}
+use Rattle.dn_instance.specs.TextFaults.{item_tests}
 use Rattle.dn_instance.specs.Readers.{NeedsMemory}
 use Rattle.dn_instance.specs.State.ItemFaults.{AnswersFault, arc_fault}
 use Rattle.dn_instance.specs.State.RowRuns.{HasSigns, Joins, counted_line, row_items}

@@ -1,8 +1,7 @@
 -- What the parts of a text so far hold: its `n` lines, and its counted lines.
-use Rattle.std.specs.Prelude.{◌≡◌, ℕ, ◌<◌, ◌^◌, ℤ, pos, List, [], ◌∷◌, ◌++◌, Bool, false, not, Option, Some, None, Result, OnOk}
+use Rattle.std.specs.Prelude.{◌≡◌, ℕ, ◌<◌, ◌^◌, ℤ, pos, List, Bool, false, not, Option, Some, None}
 use Rattle.std.specs.List.Sorted.{IsStrictlySortedBy}
 use Rattle.std.specs.Map.{keys_of, lookup}
-use Rattle.dn_line.specs.Faults.{first_fault}
 use Rattle.dn_line.specs.declared.kind.Kind.{Kind}
 use Rattle.dn_line.specs.declared.kind.Kind.TheVariants as Kinds
 use Rattle.dn_line.specs.declared.kind.Letter.TheVariants.{S, T}
@@ -17,15 +16,10 @@ use Rattle.dn_bundle.specs.declared.total.Total.{Total}
 use Rattle.dn_instance.specs.Items.{length_arc_in, cap_arc_in, cost_arc_in, point_in, query_in, source_in, supply_in, terminal_of}
 use Rattle.dn_instance.specs.TextFaults.{has_point, has_supply, is_companion}
 use Rattle.dn_instance.specs.EntryCount.{entries_as}
-use Rattle.dn_instance.specs.State.RowRuns.{counted_line}
-use Rattle.dn_line.specs.declared.row_block.RowLine.{RowLine}
-use Rattle.dn_instance.specs.declared.body.Taken.{Taken}
 use Rattle.dn_instance.specs.State.Bodies.{ListHolds, MapHolds, TableHolds}
-use Rattle.dn_instance.specs.State.ItemFaults.{AnswersFault}
 use Rattle.dn_instance.specs.declared.body.Body.{Body}
 use Rattle.dn_instance.specs.declared.body.Body.TheVariants as Bodies
 use Rattle.dn_instance.specs.declared.marks.Marks.{Marks}
-use Rattle.dn_instance.specs.declared.refusal.ItemFault.{ItemFault}
 
 -- what the counted lines of a text make; bundles are in any order while lines arrive, and sorted by pair at the end
 abbrev pub AnyBody : Type 0

@@ -1,5 +1,5 @@
 -- What the complete lines so far make, and what the next line reads as after them.
-use Rattle.std.specs.Prelude.{◌≡◌, ℕ, ◌+◌, ◌-◌, ◌^◌, ◌<◌, pos, ◌<ℤ◌, ◌≤ℤ◌, ◌+ℤ◌, List, [], ◌∷◌, ◌++◌, length, take, drop, cond, true, flat_map, Option, Some, None, Result, Ok, Err, IsSome, OnOk, int_lt}
+use Rattle.std.specs.Prelude.{◌≡◌, ℕ, ◌+◌, ◌-◌, ◌^◌, ◌<◌, pos, ◌<ℤ◌, ◌≤ℤ◌, ◌+ℤ◌, List, [], ◌∷◌, ◌++◌, length, take, drop, cond, true, flat_map, Option, Some, None, Result, Ok, Err, IsSome, int_lt}
 use Rattle.std.specs.List.{list_all, list_any, AllByRecursion}
 use Rattle.std.specs.Option.{option_map}
 use Rattle.dn_line.specs.declared.kind.Kind.{Kind}
@@ -28,10 +28,9 @@ use Rattle.dn_instance.specs.Texts.{items_of, IsClean}
 use Rattle.dn_instance.specs.State.TextParts.{AnyBody, BodyHolds, MarksHold, body_kind, is_graph}
 use Rattle.dn_instance.specs.State.Bodies.{TookRow}
 use Rattle.dn_instance.specs.State.ItemFaults.{AnswersFault}
-use Rattle.dn_instance.specs.State.RowRuns.{HasRoomFor, HasSigns, IsRowHead, row_items, row_line}
+use Rattle.dn_instance.specs.State.RowRuns.{HasRoomFor, HasSigns}
 use Rattle.dn_instance.specs.declared.refusal.ItemFault.{ItemFault}
 use Rattle.dn_instance.specs.declared.refusal.ItemFault.TheVariants.{Memory}
-use Rattle.dn_instance.specs.declared.body.Taken.{Taken}
 use Rattle.dn_instance.specs.declared.text_so_far.RowsTaken.{RowsTaken}
 use Rattle.dn_instance.specs.declared.text_so_far.TextSoFar.{TextSoFar}
 
