@@ -75,17 +75,10 @@ rows_arcs kind (r ∷ rows) g = rw (one_arc kind r g, one_counted kind r) (above
     above : (k : ℕ) → true ≡ int_lt (pos 0) (pos (suc k))
     above k = grind (arith, ints, nat_tests)
 
-none_counted : (rows : List RowLine) → filter is_counted (row_items supply_line rows) ≡ []
-none_counted [] = refl
-none_counted (r ∷ rows) = none_counted rows
-
-no_arcs : (rows : List RowLine) → list_any is_arc (row_items supply_line rows) ≡ false
-no_arcs [] = refl
-no_arcs (r ∷ rows) = no_arcs rows
-
-none_free : (rows : List RowLine) → AllByRecursion (λ i. is_counted i ≡ false) (row_items supply_line rows)
-none_free [] = tt
-none_free (r ∷ rows) = (refl, none_free rows)
+none_counted : (rows : List RowLine) → (let items = row_items supply_line rows in
+    AllByRecursion (λ i. is_counted i ≡ false) items × (filter is_counted items ≡ []) × (list_any is_arc items ≡ false))
+none_counted [] = (tt, refl, refl)
+none_counted (r ∷ rows) = let more = none_counted rows in ((refl, more.0), more.1, more.2)
 
 -- at most all rows are taken
 pub within_all : {F : Type 0} (fault : Option F) (m n : ℕ) → MatchOption fault (m ≤ n) (λ f. m < n) → m ≤ n
@@ -158,12 +151,13 @@ pub marks_run : (t : TextSoFar) (h : Marks) (kind : Kind) (head : Head) (rows : 
 marks_run t h kind head rows r node is takes = elim is [
   | inl e ↦ rw (e.0, e.1) (λ before a at.
       let took = takes before a at.marks_hold in
-      let first = take r.rows rows in
+      let none = none_counted (take r.rows rows) in
       record {
         joins = record {
           faultless = took.joins.faultless;
-          holds = marks_read t h before (row_items supply_line first) Min at (kind_awaited t Min t.nodes before _ a at)
-              (none_free first) (none_counted first) (no_arcs first) took.joins.holds;
+          holds =
+              marks_read t h before _ Min at (kind_awaited t Min t.nodes before _ a at) none.0 none.1 none.2
+              took.joins.holds;
         };
         stops = took.stops;
       })

@@ -3,7 +3,7 @@ ghost use Rattle.std.specs.Prelude.{◌≡◌, ◌≤◌, ℕ, ◌+◌, List, []
 ghost use Rattle.dn_line.specs.State.LineStates.{LineSoFar, LineReaderAt, used_of};
 ghost use Rattle.dn_line.specs.Pieces.{lines};
 ghost use Rattle.dn_instance.specs.State.ReaderResults.{Fed, Outcome, refusal_of, fed_answer};
-ghost use Rattle.dn_instance.specs.State.ReaderStates.{Advances, CountsBefore, CountsRead, DeclaresBefore, DeclaresRead, KeepsRefusal, ReaderAt, ClosesLine, WantsAtEnd, WantsInPiece, WhileReading, first_line};
+ghost use Rattle.dn_instance.specs.State.ReaderStates.{Advances, CountsBefore, CountsRead, DeclaresBefore, DeclaresRead, KeepsRefusal, ReaderAt, ClosesLine, TakesAll, WantsAtEnd, WantsInPiece, WhileReading, first_line};
 ghost use Rattle.dn_instance.specs.State.LineRefusals.{refused_at};
 ghost use Rattle.dn_instance.specs.State.TextsSoFar.{AfterLines, TextAt};
 
@@ -47,6 +47,16 @@ impl Reader {
             Ok(()) => Ok(()),
             Err(fault) => Err(self.refuse(fault)),
         }
+    }
+
+    // Takes a last line without an LF, if there is one, or keeps and returns its refusal.
+    fn close_last(&mut self) -> Result<(), Refusal>
+        ensures { WhileReading self.old (λ t. TakesAll self.new t result) }
+    {
+        if self.line.pending() {
+            return self.close();
+        }
+        Ok(())
     }
 
     // Keeps and returns the refusal of the next line, which has this fault.
@@ -171,13 +181,11 @@ impl Reader {
             drop(self);
             return Err(refusal);
         }
-        if self.line.pending() {
-            match self.close() {
-                Ok(()) => {}
-                Err(refusal) => {
-                    drop(self);
-                    return Err(refusal);
-                }
+        match self.close_last() {
+            Ok(()) => {}
+            Err(refusal) => {
+                drop(self);
+                return Err(refusal);
             }
         }
         match self.text.end() {
