@@ -80,9 +80,10 @@ cost_stays xs a are is nothing =
     (arith, ints, all, cost_kind.capacity_append xs (a ∷ []), cost_kind.capacity_some xs are, is.some, is.room)))
 
 -- items that make more entries of their kind make more entries
-entries_more : (before : List Line) (p : Problem) (i : Line) (kind : Kind) → problem_of before ≡ Some p → p.kind ≡ kind
+entries_more : (kind : Kind) (nodes : ℤ) (before next : List Line) (i : Line) → Awaits kind nodes before next
     → entries_as kind before < entries_as kind (before ++ i ∷ []) → NeedsMemory before i
-entries_more before p i kind h k more = inl (rw (problem_all before (i ∷ []) p h, h, k) more)
+entries_more kind nodes before next i a more =
+    inl (rw (problem_all before (i ∷ []) a.problem a.problem_is, a.problem_is, a.kind_is) more)
 
 -- an item of a list goes to its end
 module _ {X : Type 0} (kind : Kind) (item_in : Line → Option X) where
@@ -100,7 +101,7 @@ module _ {X : Type 0} (kind : Kind) (item_in : Line → Option X) where
       record {
         answer = record {
           fault = rw (faults a.problem a.problem_is a.kind_is) ans;
-          memory = λ out. entries_more before a.problem i kind a.problem_is a.kind_is
+          memory = λ out. entries_more kind nodes before _ i a
               (rw (entries before, entries (before ++ i ∷ []), more)
               (omega (arith, length-append (filter_map item_in before) (x ∷ []))));
         };
@@ -136,7 +137,7 @@ points_took nodes points points' row r before ans ok a was =
             let new =
             one_more_key id (row.second, row.third) (by_key es)
             (found_by_key id es ∙ points_named id before ∙ sym known ∙ once) in
-            entries_more before a.problem i Kinds.Co a.problem_is a.kind_is
+            entries_more Kinds.Co nodes before _ i a
             (rw (grown point_in before i (id, (row.second, row.third)) refl, by_key_push) (omega (arith, new)));
       };
       holds =
@@ -158,13 +159,13 @@ module _ {B Arc : Type 0} (text : Kind) (arc_in : Line → Option ((ℤ × ℤ) 
       → TookRow before (TableHolds b.kind arc_in (meant b) t') (counted_line text row) r
   table_took nodes t t' row arc r before w ans ok out a was =
       let arcs = arcs_of arc_in before in
-      let says = w.faults before a.problem a.problem_is a.kind_is a.signs.0 in
+      let says = w.faults nodes before a in
       let placed : (ℤ × ℤ) × Arc = ((row.first, row.second), arc) in
       let found = ans says.is was.are_arcs says.decides in
       record {
         answer = record {
-          fault = rw (says.fault ∙ ap (λ m. arc_fault b.kind m arcs says.is placed) a.nodes_are) found;
-          memory = λ e. w.needs before a.problem a.problem_is a.kind_is (out was.are_arcs e);
+          fault = rw says.fault found;
+          memory = λ e. w.needs nodes before a (out was.are_arcs e);
         };
         holds =
             on_ok_from r (arc_fault b.kind nodes arcs says.is placed) found (λ f lists.
@@ -185,10 +186,14 @@ module _ {B Arc : Type 0} (text : Kind) (arc_in : Line → Option ((ℤ × ℤ) 
 pub length_row : (row : Row) → IsArcOfRow Kinds.Sp lengths length_arc_in row (record { length = row.third })
 length_row row = record {
   in_line = refl;
-  faults = λ before p h k signs. record { is = true; decides = (λ x. tt, λ x. refl); fault = rw (h, k, and-true) };
-  needs = λ before p h k more. elim more [
+  faults = λ nodes before a. record {
+    is = true;
+    decides = (λ x. tt, λ x. refl);
+    fault = rw (a.problem_is, a.kind_is, a.nodes_are, and-true);
+  };
+  needs = λ nodes before a more. elim more [
     | inl m ↦
-        entries_more before p (counted_line Kinds.Sp row) Kinds.Sp h k
+        entries_more Kinds.Sp nodes before _ (counted_line Kinds.Sp row) a
         (rw (grown length_arc_in before (counted_line Kinds.Sp row) _ refl) m)
     | inr m ↦ absurd m
   ];
@@ -198,12 +203,16 @@ length_row row = record {
 pub cap_row : (row : Row) → IsArcOfRow Kinds.Max capacities cap_arc_in row (record { cap = row.third })
 cap_row row = record {
   in_line = refl;
-  faults = λ before p h k some.
+  faults = λ nodes before a.
       let sum = total_passes (arcs_of cap_arc_in before) ((row.first, row.second), record { cap = row.third }) in
-      record { is = true; decides = (λ x. record { some = some }, λ x. refl); fault = rw (h, k, and-true, sum) };
-  needs = λ before p h k more. elim more [
+      record {
+        is = true;
+        decides = (λ x. record { some = a.signs.0 }, λ x. refl);
+        fault = rw (a.problem_is, a.kind_is, a.nodes_are, and-true, sum);
+      };
+  needs = λ nodes before a more. elim more [
     | inl m ↦
-        entries_more before p (counted_line Kinds.Max row) Kinds.Max h k
+        entries_more Kinds.Max nodes before _ (counted_line Kinds.Max row) a
         (rw (grown cap_arc_in before (counted_line Kinds.Max row) _ refl) m)
     | inr m ↦ absurd m
   ];
@@ -217,19 +226,19 @@ cost_row row =
     let above = int_lt row.fourth row.third in
     record {
       in_line = refl;
-      faults = λ before p h k signs.
+      faults = λ nodes before a.
           let passes = cost_passes (arcs_of cost_arc_in before) ((row.first, row.second), arc) in
           record {
             is = not above;
             decides = (
-              λ h. record { some = signs.0; room = grind (arith, ints, nat_tests, h) },
-              λ a. grind (arith, ints, nat_tests, a.room),
+              λ h. record { some = a.signs.0.0; room = grind (arith, ints, nat_tests, h) },
+              λ is. grind (arith, ints, nat_tests, is.room),
             );
-            fault = rw (h, k, and-true, not-not above, passes);
+            fault = rw (a.problem_is, a.kind_is, a.nodes_are, and-true, not-not above, passes);
           };
-      needs = λ before p h k more. elim more [
+      needs = λ nodes before a more. elim more [
         | inl m ↦
-            entries_more before p (counted_line Kinds.Min row) Kinds.Min h k
+            entries_more Kinds.Min nodes before _ (counted_line Kinds.Min row) a
             (rw (grown cost_arc_in before (counted_line Kinds.Min row) _ refl) m)
         | inr m ↦ inr m
       ];

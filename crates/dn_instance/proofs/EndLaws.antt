@@ -37,8 +37,8 @@ Made kind nodes items contents =
     × ((I : Instance) × (instance_as kind nodes items ≡ Some I) × Shows contents I)
 
 module _ (h : Marks) (items : List Line) (marks : MarksHold h items) (nodes : ℤ) (terminals : ℤ × ℤ) where
-  max_made : (t u : Bundles Total) → TableHolds capacities cap_arc_in total_arcs t items → SortsTable t u → (source sink : Option ℤ)
-      → h.source ≡ source → h.sink ≡ sink → terminals_of Max source sink ≡ Some terminals
+  max_made : (t u : Bundles Total) → TableHolds capacities cap_arc_in total_arcs t items → SortsTable t u
+      → (source sink : Option ℤ) → h.source ≡ source → h.sink ≡ sink → terminals_of Max source sink ≡ Some terminals
       → Made Max nodes items (OfMax terminals.0 terminals.1 u)
   max_made t u k s (Some a) (Some c) from to e =
       let one : terminal_of S items ≡ Some a = sym marks.source_is ∙ from in

@@ -155,8 +155,8 @@ still_refused r t u e is h =
 
 -- the next line is refused, and the reader keeps its refusal
 pub refuses_next : (r : Reader) (ls : List (List ℕ)) (l : List ℕ) (fault : ItemFault) (e : Refusal) → TextAt r.text ls
-    → r.refusal ≡ Some e → e ≡ refused_at (length ls + 1) fault
-    → AnswersFault (Err fault) (fault_after ls l) → (fault ≡ Faults.Memory → NeedsAfter ls l) → ClosesLine r ls l (Err e)
+    → r.refusal ≡ Some e → e ≡ refused_at (length ls + 1) fault → AnswersFault (Err fault) (fault_after ls l)
+    → (fault ≡ Faults.Memory → NeedsAfter ls l) → ClosesLine r ls l (Err e)
 refuses_next r ls l fault e at is said answer item =
     let next = refused_next ls l fault at.clean answer item in (
       is,

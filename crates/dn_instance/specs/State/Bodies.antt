@@ -95,11 +95,10 @@ pub record SaysFault {Arc : Type 0} (kind : ArcKind Arc) (nodes : ℤ) (arcs : L
 pub record IsArcOfRow {Arc : Type 0} (text : Kind) (kind : ArcKind Arc) (arc_in : Line → Option ((ℤ × ℤ) × Arc))
     (row : Row) (arc : Arc) : Type 0 where
   pub in_line : arc_in (counted_line text row) ≡ Some ((row.first, row.second), arc)
-  pub faults : (before : List Line) (p : Problem) → problem_of before ≡ Some p → p.kind ≡ text
-      → HasSigns (counted_line text row)
-      → SaysFault kind p.nodes (arcs_of arc_in before) ((row.first, row.second), arc)
+  pub faults : (nodes : ℤ) (before : List Line) → Awaits text nodes before (counted_line text row ∷ [])
+      → SaysFault kind nodes (arcs_of arc_in before) ((row.first, row.second), arc)
       (first_fault (item_tests before (Some (counted_line text row))))
-  pub needs : (before : List Line) (p : Problem) → problem_of before ≡ Some p → p.kind ≡ text
+  pub needs : (nodes : ℤ) (before : List Line) → Awaits text nodes before (counted_line text row ∷ [])
       → GraphNeedsMore kind (arcs_of arc_in before) ((row.first, row.second), arc)
       → NeedsMemory before (counted_line text row)
   pub stays : Stays kind

@@ -5,8 +5,8 @@ use Rattle.dn_instance.proofs.body.take_rows.Goals as goal
 pub loop-i-preserved : goal.loop-i-preserved
 loop-i-preserved g c = record {
   joins = λ before a at.
-      one_more g.T.RowTaker.kind g.T.RowTaker.line c.args.nodes.now before c.args.rows.now _ _ c.loop-i.i _ c.take.result
-      c.loop-i-test.true c.take.ensures.taken a (c.loop-i.invariant.joins before a at) _ c.in_default.is;
+      one_more g.T.RowTaker.kind g.T.RowTaker.line c.args.nodes.now before c.args.rows.now _ _ c.loop-i.i _
+      c.take.result c.loop-i-test.true c.take.ensures.taken a (c.loop-i.invariant.joins before a at) _ c.in_default.is;
   fresh = λ none. absurd (omega arith);
 }
 

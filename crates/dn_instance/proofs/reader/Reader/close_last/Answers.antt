@@ -14,4 +14,5 @@ returns-then-pending c t h =
 pub returns : goal.returns
 returns c t h =
     let l = h.line.line in
-    rw (without_last t (none_open t l h.line.open_is (sym c.if-pending.false ∙ c.pending.ensures l h.line.stands))) h.read
+    rw (without_last t (none_open t l h.line.open_is (sym c.if-pending.false ∙ c.pending.ensures l h.line.stands)))
+    h.read
