@@ -1,5 +1,5 @@
 // Takes the rows of counted lines as they arrive.
-ghost use Rattle.std.specs.Prelude.{◌≡◌, ◌<◌, ◌≤◌, ◌^◌, ℤ, List, [], Option, OnErr, MatchOption, length};
+ghost use Rattle.std.specs.Prelude.{◌≡◌, ◌<◌, ◌≤◌, ℤ, List, [], Option, OnErr, MatchOption, length};
 ghost use Rattle.dn_line.specs.declared.kind.Kind.{Kind};
 ghost use Rattle.dn_line.specs.declared.kind.Kind.TheVariants.{Co, P2p, Ss};
 ghost use Rattle.dn_line.specs.declared.line.Line.{Line};

@@ -1,6 +1,5 @@
 // Takes `n` lines as they arrive.
-ghost use Rattle.std.specs.Prelude.{◌≡◌, List, [], OnErr, Err, false};
-ghost use Rattle.dn_line.specs.declared.line.Line.{Line};
+ghost use Rattle.std.specs.Prelude.{◌≡◌, [], OnErr, Err, false};
 ghost use Rattle.dn_line.specs.declared.line.Line.TheVariants.{Supply, Terminal};
 ghost use Rattle.dn_line.specs.declared.kind.Kind.{Kind};
 ghost use Rattle.dn_line.specs.declared.kind.Kind.TheVariants.{Min};

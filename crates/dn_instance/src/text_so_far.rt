@@ -1,18 +1,10 @@
 // The complete lines of a text: how many they are, and what their items make.
-ghost use Rattle.std.specs.Prelude.{◌≡◌, ◌<◌, ◌≤◌, ◌≤ℤ◌, ℕ, ◌+◌, ◌-◌, ◌^◌, pos, length, take, List, ◌∷◌, ◌++◌, [], OnOk, OnErr, Err, Some, MatchOption, get_or, int_lt, None, true, false};
+ghost use Rattle.std.specs.Prelude.{◌≡◌, ◌<◌, ◌≤◌, ◌≤ℤ◌, ℕ, ◌+◌, ◌-◌, ◌^◌, pos, length, take, List, ◌∷◌, ◌++◌, [], OnOk, OnErr, Err, Some, MatchOption, get_or, None, true, false};
 ghost use Rattle.dn_line.specs.declared.kind.Kind.{Kind};
 ghost use Rattle.dn_line.specs.declared.line.Line.{Line};
 ghost use Rattle.dn_line.specs.declared.row_block.RowLine.{RowLine};
-ghost use Rattle.dn_line.specs.declared.word.Word.{Word};
-ghost use Rattle.dn_line.specs.LineTable.{kind_named};
 ghost use Rattle.dn_line.specs.State.RowBlocks.{last_left};
-ghost use Rattle.dn_line.specs.Words.{first, said_words};
-ghost use Rattle.dn_line.specs.Faults.{first_fault, head_tests};
-ghost use Rattle.dn_line.specs.State.LineReads.{head_of};
-ghost use Rattle.dn_line.specs.State.LineStates.{LineSoFar, LineReaderAt};
 ghost use Rattle.dn_line.specs.State.RowItems.{problem_item};
-ghost use Rattle.dn_instance.specs.Items.{problem_in};
-ghost use Rattle.dn_instance.specs.TextFaults.{order_tests, line_fault};
 ghost use Rattle.dn_instance.specs.State.Bodies.{Keeps, TakesRows};
 ghost use Rattle.dn_instance.specs.State.Ends.{EndsWith};
 ghost use Rattle.dn_instance.specs.EntryCount.{entries_so_far};
@@ -20,7 +12,7 @@ ghost use Rattle.dn_instance.specs.State.Declarations.{declared_in};
 ghost use Rattle.dn_instance.specs.Readers.{SpellsNeed};
 ghost use Rattle.dn_instance.specs.State.ItemFaults.{AnswersFault};
 ghost use Rattle.dn_instance.specs.Texts.{items_of, with_next};
-ghost use Rattle.dn_instance.specs.State.RowRuns.{IsRowHead, row_items, row_line, run_head};
+ghost use Rattle.dn_instance.specs.State.RowRuns.{IsRowHead, row_line, run_head};
 ghost use Rattle.dn_instance.specs.State.TextsSoFar.{AfterLines, AtLine, Declares, HasRead, IsOfRun, IsOrderFault, NeedsAfter, NextRead, ReadsRows, RoomFor, TakesItem, TakesRowOf, TextAt, fault_after, fault_next, text_kind};
 
 use crate::body::{Body, Taken, take_rows};
