@@ -165,7 +165,7 @@ module _ {B Arc : Type 0} (text : Kind) (arc_in : Line → Option ((ℤ × ℤ) 
       record {
         answer = record {
           fault = rw says.fault found;
-          memory = λ e. w.needs nodes before a (out was.are_arcs e);
+          memory = λ e. w.needs nodes before _ a (out was.are_arcs e);
         };
         holds =
             on_ok_from r (arc_fault b.kind nodes arcs says.is placed) found (λ f lists.
@@ -191,9 +191,9 @@ length_row row = record {
     decides = (λ x. tt, λ x. refl);
     fault = rw (a.problem_is, a.kind_is, a.nodes_are, and-true);
   };
-  needs = λ nodes before a more. elim more [
+  needs = λ nodes before next a more. elim more [
     | inl m ↦
-        entries_more Kinds.Sp nodes before _ (counted_line Kinds.Sp row) a
+        entries_more Kinds.Sp nodes before next (counted_line Kinds.Sp row) a
         (rw (grown length_arc_in before (counted_line Kinds.Sp row) _ refl) m)
     | inr m ↦ absurd m
   ];
@@ -210,9 +210,9 @@ cap_row row = record {
         decides = (λ x. record { some = a.signs.0 }, λ x. refl);
         fault = rw (a.problem_is, a.kind_is, a.nodes_are, and-true, sum);
       };
-  needs = λ nodes before a more. elim more [
+  needs = λ nodes before next a more. elim more [
     | inl m ↦
-        entries_more Kinds.Max nodes before _ (counted_line Kinds.Max row) a
+        entries_more Kinds.Max nodes before next (counted_line Kinds.Max row) a
         (rw (grown cap_arc_in before (counted_line Kinds.Max row) _ refl) m)
     | inr m ↦ absurd m
   ];
@@ -236,9 +236,9 @@ cost_row row =
             );
             fault = rw (a.problem_is, a.kind_is, a.nodes_are, and-true, not-not above, passes);
           };
-      needs = λ nodes before a more. elim more [
+      needs = λ nodes before next a more. elim more [
         | inl m ↦
-            entries_more Kinds.Min nodes before _ (counted_line Kinds.Min row) a
+            entries_more Kinds.Min nodes before next (counted_line Kinds.Min row) a
             (rw (grown cost_arc_in before (counted_line Kinds.Min row) _ refl) m)
         | inr m ↦ inr m
       ];

@@ -98,7 +98,7 @@ pub record IsArcOfRow {Arc : Type 0} (text : Kind) (kind : ArcKind Arc) (arc_in 
   pub faults : (nodes : ℤ) (before : List Line) → Awaits text nodes before (counted_line text row ∷ [])
       → SaysFault kind nodes (arcs_of arc_in before) ((row.first, row.second), arc)
       (first_fault (item_tests before (Some (counted_line text row))))
-  pub needs : (nodes : ℤ) (before : List Line) → Awaits text nodes before (counted_line text row ∷ [])
+  pub needs : (nodes : ℤ) (before next : List Line) → Awaits text nodes before next
       → GraphNeedsMore kind (arcs_of arc_in before) ((row.first, row.second), arc)
       → NeedsMemory before (counted_line text row)
   pub stays : Stays kind
