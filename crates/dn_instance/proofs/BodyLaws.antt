@@ -1,5 +1,5 @@
 -- Lemmas on taking one row into a body, and on a body of one kind as a body of any kind.
-use Rattle.std.proofs.Common.{◌≡◌, ℤ, List, [], ◌∷◌, ◌++◌, Bool, true, not, int_lt, ◌&&◌, IsTrue, ◌↔◌, Option, Some, Result, Err, OnOk, OnErr, refl, sym, ap, ◌∙◌, subst, Vec, Global, ◌^◌, pos, arith, inl, inr, ◌<◌, filter_map, length-append, ℕ, length}
+use Rattle.std.proofs.Common.{◌≡◌, ℤ, List, [], ◌∷◌, ◌++◌, Bool, true, not, int_lt, ◌&&◌, IsTrue, ◌↔◌, Option, Some, Result, Err, OnOk, OnErr, refl, sym, ap, ◌∙◌, subst, ◌^◌, pos, arith, inl, inr, ◌<◌, filter_map, length-append, ℕ, length}
 use Rattle.std.proofs.lemmas.Result.{on_err_weaker, on_ok_weaker}
 use Rattle.dn_line.specs.Faults.{first_fault}
 use Rattle.dn_line.specs.declared.code.Code.{Code}
@@ -15,9 +15,9 @@ use Rattle.dn_nodes.specs.State.Nodes.{Gains, Nodes, is_known}
 use Rattle.dn_table.specs.State.Tables.{AreArcs, GraphNeedsMore, TableLists, Stays}
 use Rattle.dn_instance.specs.Items.{arcs_of, length_arc_in, cap_arc_in, cost_arc_in, Problem, problem_of, point_in, by_key}
 use Rattle.dn_instance.specs.TextFaults.{has_point, is_companion, item_tests}
-use Rattle.dn_instance.specs.State.Bodies.{Awaits, list_body, IsArcOfRow, Keeps, TookRow, ids_body, pairs_body, points_body, table_body, TableHolds, TakerFacts, Counts, TakesRows, TookRows}
+use Rattle.dn_instance.specs.State.Bodies.{Awaits, IsArcOfRow, Keeps, MapHolds, TableHolds, TookRow}
 use Rattle.dn_instance.specs.State.ItemFaults.{AnswersFault, arc_fault, id_fault, in_graph, pair_fault, point_fault}
-use Rattle.dn_instance.specs.State.RowRuns.{counted_line, row_items}
+use Rattle.dn_instance.specs.State.RowRuns.{counted_line}
 use Rattle.dn_instance.specs.declared.refusal.ItemFault.{ItemFault}
 use Rattle.dn_instance.specs.declared.refusal.ItemFault.TheVariants.{Memory}
 use Rattle.dn_instance.proofs.ValidLaws.{grown}
@@ -44,10 +44,6 @@ use Rattle.dn_instance.proofs.MapLaws.{by_key_push, one_more_key, found_by_key, 
 use Rattle.dn_instance.proofs.ItemSteps.{problem_all}
 use Rattle.std.proofs.lemmas.Bool.{not-false}
 use Rattle.dn_instance.proofs.MarksLaws.{map_gains, on_ok_from}
-use Rattle.dn_line.specs.declared.row_block.RowLine.{RowLine}
-use Rattle.dn_instance.specs.State.TextParts.{AnyBody, BodyHolds, any_body, body_kind, max_body, min_body, sp_body}
-use Rattle.dn_instance.specs.declared.body.Body.TheVariants as Bodies
-use Rattle.dn_instance.specs.declared.body.Taken.{Taken}
 
 no_arcs_more : {A : Type 0} (xs : List A) (a : A) → xs ++ a ∷ [] ≡ [] → ⊥
 no_arcs_more [] a e = cc
@@ -84,31 +80,32 @@ cost_stays xs a are is nothing =
     (arith, ints, all, cost_kind.capacity_append xs (a ∷ []), cost_kind.capacity_some xs are, is.some, is.room)))
 
 -- items that make more entries of their kind make more entries
-entries_more : (before : List Line) (p : Problem) (i : Line) (kind : Kind) → problem_of before ≡ Some p → p.kind ≡ kind
+entries_more : (kind : Kind) (nodes : ℤ) (before next : List Line) (i : Line) → Awaits kind nodes before next
     → entries_as kind before < entries_as kind (before ++ i ∷ []) → NeedsMemory before i
-entries_more before p i kind h k more = inl (rw (problem_all before (i ∷ []) p h, h, k) more)
+entries_more kind nodes before next i a more =
+    inl (rw (problem_all before (i ∷ []) a.problem a.problem_is, a.problem_is, a.kind_is) more)
 
 -- an item of a list goes to its end
 module _ {X : Type 0} (kind : Kind) (item_in : Line → Option X) where
-  pub list_took : (nodes : ℤ) (list list' : Vec X Global) (row : Row) (x : X) (f : Option Code)
+  pub list_took : (nodes : ℤ) (list list' : List X) (row : Row) (x : X) (f : Option Code)
       (r : Result (Unit {0}) ItemFault) (before : List Line) → item_in (counted_line kind row) ≡ Some x
       → ((p : Problem) → problem_of before ≡ Some p → p.kind ≡ kind
       → first_fault (item_tests before (Some (counted_line kind row))) ≡ f)
       → ((items : List Line) → entries_as kind items ≡ length (filter_map item_in items)) → AnswersFault r f
-      → OnOk r (list'.items ≡ list.items ++ x ∷ [])
-      → Awaits (list_body kind item_in) nodes list before (counted_line kind row ∷ [])
-      → TookRow (list_body kind item_in) (counted_line kind) before list' row r
-  list_took nodes list list' row x f r before is faults entries ans ok a =
+      → OnOk r (list' ≡ list ++ x ∷ [])
+      → Awaits kind nodes before (counted_line kind row ∷ []) → list ≡ filter_map item_in before
+      → TookRow before (λ items. list' ≡ filter_map item_in items) (counted_line kind row) r
+  list_took nodes list list' row x f r before is faults entries ans ok a was =
       let i = counted_line kind row in
       let more = grown item_in before i x is in
       record {
         answer = record {
           fault = rw (faults a.problem a.problem_is a.kind_is) ans;
-          memory = λ out. entries_more before a.problem i kind a.problem_is a.kind_is
+          memory = λ out. entries_more kind nodes before _ i a
               (rw (entries before, entries (before ++ i ∷ []), more)
               (omega (arith, length-append (filter_map item_in before) (x ∷ []))));
         };
-        holds = on_ok_weaker r (λ e. rw (more, ← a.holds) e) ok;
+        holds = on_ok_weaker r (λ e. rw (more, ← was) e) ok;
       }
 
 -- the fault of a line with one ID, and of a line with two
@@ -124,13 +121,13 @@ pair_faults before q p h k = simp (h, ap is_companion k, and-true)
 pub points_took : (nodes : ℤ) (points points' : Nodes (ℤ × ℤ)) (row : Row) (r : Result (Unit {0}) ItemFault)
     (before : List Line) → AnswersFault r (point_fault (is_known points row.first) row.first)
     → OnOk r (Gains points row.first (Some (row.second, row.third)) points')
-    → Awaits points_body nodes points before (counted_line Kinds.Co row ∷ [])
-    → TookRow points_body (counted_line Kinds.Co) before points' row r
-points_took nodes points points' row r before ans ok a =
+    → Awaits Kinds.Co nodes before (counted_line Kinds.Co row ∷ []) → MapHolds point_in has_point points before
+    → TookRow before (MapHolds point_in has_point points') (counted_line Kinds.Co row) r
+points_took nodes points points' row r before ans ok a was =
     let id = row.first in
     let i = counted_line Kinds.Co row in
     let es = filter_map point_in before in
-    let known = a.holds.known_are id in
+    let known = was.known_are id in
     record {
       answer = record {
         fault = rw (a.problem_is, ap is_companion a.kind_is, and-true, and-true, ← known) ans;
@@ -140,13 +137,13 @@ points_took nodes points points' row r before ans ok a =
             let new =
             one_more_key id (row.second, row.third) (by_key es)
             (found_by_key id es ∙ points_named id before ∙ sym known ∙ once) in
-            entries_more before a.problem i Kinds.Co a.problem_is a.kind_is
+            entries_more Kinds.Co nodes before _ i a
             (rw (grown point_in before i (id, (row.second, row.third)) refl, by_key_push) (omega (arith, new)));
       };
       holds =
           on_ok_weaker r (λ gains.
           map_gains point_in has_point before i points points' id (Some (row.second, row.third)) refl (λ q. refl) gains
-          a.holds) ok;
+          was) ok;
     }
 
 module _ {B Arc : Type 0} (text : Kind) (arc_in : Line → Option ((ℤ × ℤ) × Arc)) (b : BundleFacts B Arc) where
@@ -158,17 +155,17 @@ module _ {B Arc : Type 0} (text : Kind) (arc_in : Line → Option ((ℤ × ℤ) 
       → OnOk r (TableLists b.kind (meant b) t' (arcs_of arc_in before ++ ((row.first, row.second), arc) ∷ [])))
       → (AreArcs b.kind (arcs_of arc_in before) → r ≡ Err Memory
       → GraphNeedsMore b.kind (arcs_of arc_in before) ((row.first, row.second), arc))
-      → Awaits (table_body text arc_in b) nodes t before (counted_line text row ∷ [])
-      → TookRow (table_body text arc_in b) (counted_line text) before t' row r
-  table_took nodes t t' row arc r before w ans ok out a =
+      → Awaits text nodes before (counted_line text row ∷ []) → TableHolds b.kind arc_in (meant b) t before
+      → TookRow before (TableHolds b.kind arc_in (meant b) t') (counted_line text row) r
+  table_took nodes t t' row arc r before w ans ok out a was =
       let arcs = arcs_of arc_in before in
-      let says = w.faults before a.problem a.problem_is a.kind_is a.signs.0 in
+      let says = w.faults nodes before a in
       let placed : (ℤ × ℤ) × Arc = ((row.first, row.second), arc) in
-      let found = ans says.is a.holds.are_arcs says.decides in
+      let found = ans says.is was.are_arcs says.decides in
       record {
         answer = record {
-          fault = rw (says.fault ∙ ap (λ m. arc_fault b.kind m arcs says.is placed) a.nodes_are) found;
-          memory = λ e. w.needs before a.problem a.problem_is a.kind_is (out a.holds.are_arcs e);
+          fault = rw says.fault found;
+          memory = λ e. w.needs nodes before _ a (out was.are_arcs e);
         };
         holds =
             on_ok_from r (arc_fault b.kind nodes arcs says.is placed) found (λ f lists.
@@ -177,22 +174,26 @@ module _ {B Arc : Type 0} (text : Kind) (arc_in : Line → Option ((ℤ × ℤ) 
             let more = grown arc_in before (counted_line text row) placed w.in_line in
             record {
               lists_them = rw more lists;
-              are_arcs = rw more (all_end (λ x. b.kind.IsArc x.1) arcs placed a.holds.are_arcs (says.decides.0 is));
-            }) (ok a.holds.are_arcs);
+              are_arcs = rw more (all_end (λ x. b.kind.IsArc x.1) arcs placed was.are_arcs (says.decides.0 is));
+            }) (ok was.are_arcs);
       }
 
   pub table_same : (t t' : List ((ℤ × ℤ) × B)) (r : Result (Unit {0}) ItemFault) → OnErr r (t' ≡ t)
-      → OnErr r (Keeps (table_body text arc_in b) t t')
+      → OnErr r (Keeps (TableHolds b.kind arc_in (meant b) t) (TableHolds b.kind arc_in (meant b) t'))
   table_same t t' r same = on_err_weaker r (λ e items h. rw e h) same
 
 -- the arcs that rows spell
 pub length_row : (row : Row) → IsArcOfRow Kinds.Sp lengths length_arc_in row (record { length = row.third })
 length_row row = record {
   in_line = refl;
-  faults = λ before p h k signs. record { is = true; decides = (λ x. tt, λ x. refl); fault = rw (h, k, and-true) };
-  needs = λ before p h k more. elim more [
+  faults = λ nodes before a. record {
+    is = true;
+    decides = (λ x. tt, λ x. refl);
+    fault = rw (a.problem_is, a.kind_is, a.nodes_are, and-true);
+  };
+  needs = λ nodes before next a more. elim more [
     | inl m ↦
-        entries_more before p (counted_line Kinds.Sp row) Kinds.Sp h k
+        entries_more Kinds.Sp nodes before next (counted_line Kinds.Sp row) a
         (rw (grown length_arc_in before (counted_line Kinds.Sp row) _ refl) m)
     | inr m ↦ absurd m
   ];
@@ -202,12 +203,16 @@ length_row row = record {
 pub cap_row : (row : Row) → IsArcOfRow Kinds.Max capacities cap_arc_in row (record { cap = row.third })
 cap_row row = record {
   in_line = refl;
-  faults = λ before p h k some.
+  faults = λ nodes before a.
       let sum = total_passes (arcs_of cap_arc_in before) ((row.first, row.second), record { cap = row.third }) in
-      record { is = true; decides = (λ x. record { some = some }, λ x. refl); fault = rw (h, k, and-true, sum) };
-  needs = λ before p h k more. elim more [
+      record {
+        is = true;
+        decides = (λ x. record { some = a.signs.0 }, λ x. refl);
+        fault = rw (a.problem_is, a.kind_is, a.nodes_are, and-true, sum);
+      };
+  needs = λ nodes before next a more. elim more [
     | inl m ↦
-        entries_more before p (counted_line Kinds.Max row) Kinds.Max h k
+        entries_more Kinds.Max nodes before next (counted_line Kinds.Max row) a
         (rw (grown cap_arc_in before (counted_line Kinds.Max row) _ refl) m)
     | inr m ↦ absurd m
   ];
@@ -221,87 +226,24 @@ cost_row row =
     let above = int_lt row.fourth row.third in
     record {
       in_line = refl;
-      faults = λ before p h k signs.
+      faults = λ nodes before a.
           let passes = cost_passes (arcs_of cost_arc_in before) ((row.first, row.second), arc) in
           record {
             is = not above;
             decides = (
-              λ h. record { some = signs.0; room = grind (arith, ints, nat_tests, h) },
-              λ a. grind (arith, ints, nat_tests, a.room),
+              λ h. record { some = a.signs.0.0; room = grind (arith, ints, nat_tests, h) },
+              λ is. grind (arith, ints, nat_tests, is.room),
             );
-            fault = rw (h, k, and-true, not-not above, passes);
+            fault = rw (a.problem_is, a.kind_is, a.nodes_are, and-true, not-not above, passes);
           };
-      needs = λ before p h k more. elim more [
+      needs = λ nodes before next a more. elim more [
         | inl m ↦
-            entries_more before p (counted_line Kinds.Min row) Kinds.Min h k
+            entries_more Kinds.Min nodes before next (counted_line Kinds.Min row) a
             (rw (grown cost_arc_in before (counted_line Kinds.Min row) _ refl) m)
         | inr m ↦ inr m
       ];
       stays = cost_stays;
     }
-
--- what a body of one kind holds is what it holds as a body of any kind
-pub record IsPart {T : Type 0} (facts : TakerFacts T) (put : T → AnyBody) : Type 0 where
-  is : (t : T) → body_kind (put t) ≡ facts.kind
-  to : (t : T) (items : List Line) → BodyHolds (put t) items → facts.Holds t items
-  back : (t : T) (items : List Line) → facts.Holds t items → BodyHolds (put t) items
-
-pub min_part : IsPart min_body Bodies.Min
-min_part = record { is = λ t. refl; to = λ t items h. h; back = λ t items h. h }
-
-pub max_part : IsPart max_body Bodies.Max
-max_part = record { is = λ t. refl; to = λ t items h. h; back = λ t items h. h }
-
-pub sp_part : IsPart sp_body Bodies.Sp
-sp_part = record { is = λ t. refl; to = λ t items h. h; back = λ t items h. h }
-
-pub ids_part : IsPart ids_body Bodies.Ss
-ids_part = record { is = λ t. refl; to = λ t items h. h; back = λ t items h. h }
-
-pub pairs_part : IsPart pairs_body Bodies.P2p
-pairs_part = record { is = λ t. refl; to = λ t items h. h; back = λ t items h. h }
-
-pub points_part : IsPart points_body Bodies.Co
-points_part = record { is = λ t. refl; to = λ t items h. h; back = λ t items h. h }
-
-module _ {T : Type 0} {facts : TakerFacts T} {put : T → AnyBody} (part : IsPart facts put) where
-  -- at its own kind
-  own_rows : (nodes : ℤ) (old new : T) (rows : List RowLine) (r : Taken)
-      → TakesRows facts (counted_line facts.kind) nodes old new rows r
-      → TakesRows (any_body facts.kind) (counted_line facts.kind) nodes (put old) (put new) rows r
-  own_rows nodes old new rows r h before a =
-      let t = h before (record {
-        problem = a.problem;
-        problem_is = a.problem_is;
-        kind_is = a.kind_is;
-        nodes_are = a.nodes_are;
-        signs = a.signs;
-        holds = part.to old before a.holds.1;
-      }) in
-      record {
-        joins = record { faultless = t.joins.faultless; holds = (part.is new, part.back new _ t.joins.holds) };
-        stops = t.stops;
-      }
-
-  same_kind : (t : T) (kind : Kind) → body_kind (put t) ≡ kind → facts.kind ≡ kind
-  same_kind t kind h = sym (part.is t) ∙ h
-
-  pub rows_taken : (nodes : ℤ) (old new : T) (rows : List RowLine) (r : Taken)
-      → TakesRows facts (counted_line facts.kind) nodes old new rows r → (b : AnyBody) → b ≡ put old → (kind : Kind)
-      → TakesRows (any_body kind) (counted_line kind) nodes b (put new) rows r
-  rows_taken nodes old new rows r h b e kind =
-      rw e (λ before a. subst (λ k. Awaits (any_body k) nodes (put old) before (row_items (counted_line k) rows)
-      → TookRows (any_body k) (counted_line k) before (put new) rows r)
-      (same_kind old kind a.holds.0) (own_rows nodes old new rows r h before) a)
-
-  pub rows_kept : (old new : T) → Keeps facts old new → (b : AnyBody) → b ≡ put old → (items : List Line)
-      → BodyHolds b items → BodyHolds (put new) items
-  rows_kept old new keeps b e items h = part.back new items (keeps items (part.to old items (rw e at h)))
-
-  pub counted_by : (t : T) (n : ℕ) → Counts facts t n → (b : AnyBody) → b ≡ put t → (items : List Line)
-      → BodyHolds b items → entries_as (body_kind b) items < 2 ^ 64 → n ≡ entries_as (body_kind b) items
-  counted_by t n h b e =
-      rw e (λ items held few. rw (part.is t) (h items (part.to t items held) (rw (part.is t) at few)))
 
 -- the entries of a table are those of the arcs of the items
 pub table_counted : {B Arc : Type 0} (text : Kind) (kind : ArcKind Arc) (arc_in : Line → Option ((ℤ × ℤ) × Arc))

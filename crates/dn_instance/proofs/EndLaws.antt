@@ -17,7 +17,9 @@ use Rattle.dn_table.proofs.GrownLaws.{stands_as}
 use Rattle.dn_instance.specs.Instances.{Instance, MaxFlow}
 use Rattle.dn_instance.specs.Items.{counted, terminal_of, graph_of, arcs_of, cap_arc_in, cost_arc_in, length_arc_in, instance_as}
 use Rattle.dn_instance.specs.TextFaults.{end_fault, lacks_terminal}
-use Rattle.dn_instance.specs.State.TextParts.{AnyBody, BodyHolds, MarksHold, IsSorted, SortsTable, body_kind, max_body, terminals_of}
+use Rattle.dn_instance.specs.State.Bodies.{TableHolds}
+use Rattle.dn_bundle.specs.State.Listings.{total_arcs}
+use Rattle.dn_instance.specs.State.TextParts.{AnyBody, BodyHolds, MarksHold, IsSorted, SortsTable, body_kind, terminals_of}
 use Rattle.dn_instance.specs.State.Ends.{EndsWith}
 use Rattle.dn_instance.specs.State.Helds.{Bundles, Contents, OfMax, Parsed, Shows, contents_of}
 use Rattle.dn_instance.specs.State.TextsSoFar.{HasRead, problem_as, text_kind}
@@ -35,8 +37,8 @@ Made kind nodes items contents =
     × ((I : Instance) × (instance_as kind nodes items ≡ Some I) × Shows contents I)
 
 module _ (h : Marks) (items : List Line) (marks : MarksHold h items) (nodes : ℤ) (terminals : ℤ × ℤ) where
-  max_made : (t u : Bundles Total) → max_body.Holds t items → SortsTable t u → (source sink : Option ℤ)
-      → h.source ≡ source → h.sink ≡ sink → terminals_of Max source sink ≡ Some terminals
+  max_made : (t u : Bundles Total) → TableHolds capacities cap_arc_in total_arcs t items → SortsTable t u
+      → (source sink : Option ℤ) → h.source ≡ source → h.sink ≡ sink → terminals_of Max source sink ≡ Some terminals
       → Made Max nodes items (OfMax terminals.0 terminals.1 u)
   max_made t u k s (Some a) (Some c) from to e =
       let one : terminal_of S items ≡ Some a = sym marks.source_is ∙ from in

@@ -1,5 +1,5 @@
 -- Lemmas on `n` lines: what the marks hold after them, and that other lines keep what the marks hold.
-use Rattle.std.proofs.Common.{arith, ◌≡◌, ℤ, List, [], ◌∷◌, ◌++◌, true, false, ◌||◌, not, Option, Some, None, is_some, IsSome, Result, Ok, Err, OnOk, OnErr, refl, sym, ap, ◌∙◌, append-nil, append_assoc, inr, filter_map, pos, Bool, cond, int_cmp, int_eq, option_map, rules}
+use Rattle.std.proofs.Common.{arith, ◌≡◌, ℤ, List, [], ◌∷◌, ◌++◌, true, false, ◌||◌, not, Option, Some, None, is_some, IsSome, Result, Ok, Err, OnOk, OnErr, refl, sym, ◌∙◌, append-nil, append_assoc, inr, filter_map, pos, Bool, cond, int_cmp, int_eq, option_map, rules}
 use Rattle.dn_instance.proofs.CleanItems.{or_none}
 use Rattle.dn_instance.proofs.ValidLaws.{terminal_more, kept, grown}
 use Rattle.std.specs.List.{AllByRecursion}
@@ -19,14 +19,15 @@ use Rattle.dn_nodes.specs.State.Nodes.{Gains, Nodes, is_known, with_entry}
 use Rattle.dn_arc.specs.Kinds.{capacities, costs, lengths, ArcKind}
 use Rattle.dn_instance.specs.Items.{by_key, cap_arc_in, cost_arc_in, is_counted, length_arc_in, point_in, problem_in, query_in, source_in, supply_in, terminal_in, terminal_of}
 use Rattle.dn_instance.specs.TextFaults.{has_point, has_supply, is_companion}
-use Rattle.dn_instance.specs.State.Bodies.{MapHolds, TakesRow, TableHolds}
-use Rattle.dn_instance.specs.State.TextParts.{AnyBody, BodyHolds, MarksHold, TakesMark, body_kind, marks_of}
+use Rattle.dn_instance.specs.State.Bodies.{Keeps, MapHolds, TakesRow, TableHolds}
+use Rattle.dn_instance.specs.State.TextParts.{AnyBody, BodyHolds, MarksHold, body_kind}
 use Rattle.dn_instance.specs.State.TextsSoFar.{HoldsBody}
 use Rattle.dn_instance.specs.State.ItemFaults.{AnswersFault, in_graph, terminal_fault, supply_fault}
-use Rattle.dn_instance.specs.State.RowRuns.{counted_line, row_items, supply_line}
+use Rattle.dn_instance.specs.State.RowRuns.{counted_line, row_items}
 use Rattle.dn_instance.specs.declared.body.Body.TheVariants as Bodies
 use Rattle.dn_instance.specs.declared.marks.Marks.{Marks}
 use Rattle.dn_instance.specs.declared.refusal.ItemFault.{ItemFault}
+use Rattle.dn_instance.specs.declared.refusal.ItemFault.TheVariants.{Memory}
 use Rattle.dn_instance.proofs.FirstFaults.{none_first}
 use Rattle.dn_table.proofs.GrownLaws.{none_is}
 use Rattle.dn_line.specs.declared.code.Code.{Code}
@@ -121,36 +122,44 @@ module _ (nodes id : ℤ) (h : Marks) (s : Option ℤ) (r : Result (Unit {0}) It
       (none_first (is_some own) RepeatedNode _ (none_first (not (in_graph nodes id)) NodeOutOfRange _ f).1).0
 
   pub source_taken : (l : Letter) → l ≡ S → AnswersFault r (terminal_fault nodes h.source h.sink id)
-      → OnOk r (s ≡ Some id) → TakesMark nodes h with_source (Item.Terminal id l) r
-  source_taken l is ans ok before p problem graph nodes_are was =
+      → OnOk r (s ≡ Some id) → (r ≡ Err Memory → ⊥) → (kind : Kind) → is_companion kind ≡ false
+      → TakesRow kind nodes (MarksHold h) (MarksHold with_source) (Item.Terminal id l) r
+  source_taken l is ans ok never kind graph before a was =
       let i = Item.Terminal id S in
-      rw is (
-        rw (problem, graph, and-true, nodes_are, ← was.source_is, ← was.sink_is) ans,
-        on_ok_from r (terminal_fault nodes h.source h.sink id) ans (λ f e. record {
+      rw is (record {
+        answer = record {
+          fault = rw (a.problem_is, a.kind_is, graph, and-true, a.nodes_are, ← was.source_is, ← was.sink_is) ans;
+          memory = λ out. absurd (never out);
+        };
+        holds = on_ok_from r (terminal_fault nodes h.source h.sink id) ans (λ f e. record {
           supplies = map_kept supply_in has_supply before i h.supplies refl (λ q. refl) was.supplies;
           source_is = rw (terminal_more S before (i ∷ []), ← was.source_is, not_yet h.source h.sink f) e;
           sink_is = was.sink_is ∙ sym (same_terminal T before i refl);
-        }) ok,
-      )
+        }) ok;
+      })
 
   pub sink_taken : (l : Letter) → l ≡ T → AnswersFault r (terminal_fault nodes h.sink h.source id)
-      → OnOk r (s ≡ Some id) → TakesMark nodes h with_sink (Item.Terminal id l) r
-  sink_taken l is ans ok before p problem graph nodes_are was =
+      → OnOk r (s ≡ Some id) → (r ≡ Err Memory → ⊥) → (kind : Kind) → is_companion kind ≡ false
+      → TakesRow kind nodes (MarksHold h) (MarksHold with_sink) (Item.Terminal id l) r
+  sink_taken l is ans ok never kind graph before a was =
       let i = Item.Terminal id T in
-      rw is (
-        rw (problem, graph, and-true, nodes_are, ← was.source_is, ← was.sink_is) ans,
-        on_ok_from r (terminal_fault nodes h.sink h.source id) ans (λ f e. record {
+      rw is (record {
+        answer = record {
+          fault = rw (a.problem_is, a.kind_is, graph, and-true, a.nodes_are, ← was.source_is, ← was.sink_is) ans;
+          memory = λ out. absurd (never out);
+        };
+        holds = on_ok_from r (terminal_fault nodes h.sink h.source id) ans (λ f e. record {
           supplies = map_kept supply_in has_supply before i h.supplies refl (λ q. refl) was.supplies;
           source_is = was.source_is ∙ sym (same_terminal S before i refl);
           sink_is = rw (terminal_more T before (i ∷ []), ← was.sink_is, not_yet h.sink h.source f) e;
-        }) ok,
-      )
+        }) ok;
+      })
 
   pub source_same : OnErr r (s ≡ h.source)
-      → OnErr r ((items : List Line) → MarksHold h items → MarksHold with_source items)
+      → OnErr r (Keeps (MarksHold h) (MarksHold with_source))
   source_same same = on_err_weaker r (λ e items was. rw e was) same
 
-  pub sink_same : OnErr r (s ≡ h.sink) → OnErr r ((items : List Line) → MarksHold h items → MarksHold with_sink items)
+  pub sink_same : OnErr r (s ≡ h.sink) → OnErr r (Keeps (MarksHold h) (MarksHold with_sink))
   sink_same same = on_err_weaker r (λ e items was. rw e was) same
 
 -- an item that is not an arc does not change what the table holds
@@ -191,13 +200,6 @@ no_item (Item.Graph _ _ _) h = (refl, record { supply = refl; other = λ q. refl
 no_item (Item.Aux _ _) h = (refl, record { supply = refl; other = λ q. refl; terminal = λ l. refl })
 no_item _ h = cc
 
--- a `min` node line that the marks take has its row taken
-pub marks_took : (nodes : ℤ) (old new : Marks) (row : Row) (r : Result (Unit {0}) ItemFault)
-    → TakesMark nodes old new (supply_line row) r → TakesRow marks_of supply_line nodes old new row r
-marks_took nodes old new row r takes before a =
-    let t = takes before a.problem a.problem_is (ap is_companion a.kind_is) a.nodes_are a.holds in
-    record { answer = record { fault = t.0; memory = λ out. inr tt }; holds = t.1 }
-
 -- `n` lines of a `min` text
 module _ (nodes id flow : ℤ) (h : Marks) (s : Nodes ℤ) (r : Result (Unit {0}) ItemFault) where
   abbrev with_supply : Marks
@@ -210,20 +212,25 @@ module _ (nodes id flow : ℤ) (h : Marks) (s : Nodes ℤ) (r : Result (Unit {0}
 
   pub supply_taken : AnswersFault r (supply_fault nodes (is_known h.supplies id) id)
       → OnOk r (Gains h.supplies id (cond (int_eq flow (pos 0)) None (Some flow)) s)
-      → TakesMark nodes h with_supply (Item.Supply id flow) r
-  supply_taken ans ok before p problem graph nodes_are was =
-      let i = Item.Supply id flow in (
-        rw (problem, graph, and-true, nodes_are, ← was.supplies.known_are id) ans,
-        on_ok_weaker r (λ gains. record {
+      → (kind : Kind) → is_companion kind ≡ false
+      → TakesRow kind nodes (MarksHold h) (MarksHold with_supply) (Item.Supply id flow) r
+  supply_taken ans ok kind graph before a was =
+      let i = Item.Supply id flow in
+      record {
+        answer = record {
+          fault = rw (a.problem_is, a.kind_is, graph, and-true, a.nodes_are, ← was.supplies.known_are id) ans;
+          memory = λ out. inr tt;
+        };
+        holds = on_ok_weaker r (λ gains. record {
           supplies =
               map_gains supply_in has_supply before i h.supplies s id _ (flow_in (int_eq flow (pos 0))) (λ q. refl)
               gains was.supplies;
           source_is = was.source_is ∙ sym (same_terminal S before i refl);
           sink_is = was.sink_is ∙ sym (same_terminal T before i refl);
-        }) ok,
-      )
+        }) ok;
+      }
 
   -- a node line that is not taken does not change what the marks hold
   pub supply_same : OnErr r (s ≡ h.supplies)
-      → OnErr r ((items : List Line) → MarksHold h items → MarksHold with_supply items)
+      → OnErr r (Keeps (MarksHold h) (MarksHold with_supply))
   supply_same same = on_err_weaker r (λ e items was. rw e was) same

@@ -1,8 +1,9 @@
 -- Lemmas on what a reader has read, and on a reader that takes rows at the beginning of a piece.
 use Rattle.dn_instance.specs.State.Helds.{Parsed}
-use Rattle.std.proofs.Common.{◌≡◌, ℕ, ◌+◌, ◌≤◌, List, [], ◌∷◌, ◌++◌, length, take, drop, Option, Some, None, Ok, Err, Result, MatchOption, inl, inr, refl, sym, ap, ◌∙◌, subst, arith, length-append, append-nil, append_assoc, pos, take_all, true, IfOk, take-add}
+use Rattle.std.proofs.Common.{◌≡◌, ℕ, ◌+◌, ◌≤◌, List, [], ◌∷◌, ◌++◌, length, take, drop, Option, Some, None, Ok, Err, Result, MatchOption, inl, inr, refl, sym, ap, ◌∙◌, subst, arith, length-append, append-nil, append_assoc, pos, take_all, true}
 use Rattle.std.proofs.Math.Seq.{take-append_seam}
-use Rattle.std.proofs.lemmas.List.{take-append-le}
+use Rattle.std.proofs.lemmas.Grind.{flat_map-append}
+use Rattle.std.proofs.lemmas.List.{take-append-drop, take-append-le}
 use Rattle.dn_line.specs.declared.code.Code.{Code}
 use Rattle.dn_line.specs.Words.{said_words}
 use Rattle.dn_line.specs.Pieces.{lines, parts, is_line_feed}
@@ -13,30 +14,30 @@ use Rattle.dn_instance.specs.declared.reader.Reader.{Reader}
 use Rattle.dn_instance.specs.declared.refusal.Refusal.{Refusal}
 use Rattle.dn_instance.specs.declared.refusal.Refusal.TheVariants.{Text, Memory}
 use Rattle.dn_instance.specs.State.ItemFaults.{AnswersFault}
-use Rattle.dn_instance.specs.Readers.{SpellsNeed, ended}
-use Rattle.dn_instance.specs.State.ReaderResults.{lines_taken, IsNext, EntriesBefore, IsRefused, Fed, Outcome, fed_answer}
-use Rattle.dn_instance.specs.State.ReaderStates.{StopsIn, ClosesLine, TakesAll, IsReading, ReaderAt, Advances, HasOpen, Steps, open_of}
+use Rattle.dn_instance.specs.Readers.{ended}
+use Rattle.dn_instance.specs.State.ReaderResults.{lines_taken, IsNext, IsRefused, Fed, Outcome, fed_answer}
+use Rattle.dn_instance.specs.State.ReaderStates.{StopsIn, ClosesLine, TakesAll, StopsAfter, IsReading, ReaderAt, Advances, HasOpen, open_of}
 use Rattle.dn_instance.specs.State.LineRefusals.{refused_at}
 use Rattle.dn_instance.specs.TextFaults.{line_fault}
 use Rattle.dn_instance.specs.Texts.{items_of, IsClean, IsFirstFaultAt}
-use Rattle.dn_instance.specs.State.TextsSoFar.{TextAt, AreInner, IsRefusedRow, ReadsRows, RefusesRow, closed_lines}
+use Rattle.dn_instance.specs.State.TextsSoFar.{TextAt, AreInner, IsRefusedRow, ReadsRows, NeedsAfter, RefusesRow, closed_lines, fault_after}
 use Rattle.dn_instance.proofs.FirstFaults.{first_on}
 use Rattle.dn_instance.proofs.CleanItems.{split, clean_more}
 use Rattle.dn_instance.proofs.PieceSteps.{More, ended_more, lines_more, rest_of, step_on, whole_of, closed_more}
 use Rattle.dn_instance.proofs.SizeLaws.{problem_sized}
 use Rattle.dn_instance.specs.State.Ends.{EndsWith}
-use Rattle.dn_instance.specs.EntryCount.{entries_so_far}
 use Rattle.dn_instance.specs.declared.text_so_far.TextSoFar.{TextSoFar}
 use Rattle.std.specs.List.{list_all}
-use Rattle.dn_line.specs.State.LineStates.{is_inner, used_of}
+use Rattle.dn_line.specs.State.LineStates.{is_inner}
 use Rattle.dn_line.proofs.PartsLaws.{Parts}
 use Rattle.dn_instance.specs.declared.text_so_far.RowsTaken.{RowsTaken}
 
 -- the fault of a line that follows lines without a fault is the first fault
-fault_first : (ls : List (List ℕ)) (l : List ℕ) (number : ℕ) (code : Code) → IsClean ls → number ≡ length ls + 1
-    → line_fault (length ls + 1) (items_of ls) (said_words l) ≡ Some code → IsFirstFaultAt (ls ++ l ∷ []) number code
-fault_first ls l number code clean n f = record {
-  at = record { before = ls; line = l; after = []; lines_are = refl; number_is = n; fault_is = rw n f };
+fault_first : (ls : List (List ℕ)) (l : List ℕ) (code : Code) → IsClean ls
+    → line_fault (length ls + 1) (items_of ls) (said_words l) ≡ Some code
+    → IsFirstFaultAt (ls ++ l ∷ []) (length ls + 1) code
+fault_first ls l code clean f = record {
+  at = record { before = ls; line = l; after = []; lines_are = refl; number_is = refl; fault_is = f };
   first = λ other fault g. elim (split ls g.before g.after l g.line g.lines_are) [
     | inl e ↦ omega (arith, ap length e.0, g.number_is)
     | inr (a, e) ↦
@@ -47,24 +48,26 @@ fault_first ls l number code clean n f = record {
   ];
 }
 
-all_of : (ls : List (List ℕ)) (l : List ℕ) → take (length ls + 1) (ls ++ l ∷ []) ≡ ls ++ l ∷ []
-all_of ls l = take_all (length ls + 1) (ls ++ l ∷ []) (omega (arith, length-append ls (l ∷ [])))
-
 -- the next line is refused
-pub refused_next : (ls : List (List ℕ)) (l : List ℕ) (number : ℕ) (fault : ItemFault) → IsClean ls
-    → number ≡ length ls + 1 → AnswersFault (Err fault) (line_fault (length ls + 1) (items_of ls) (said_words l))
-    → (fault ≡ Faults.Memory → SpellsNeed (items_of ls) (said_words l))
-    → IsRefused (length ls) (ls ++ l ∷ []) (refused_at number fault)
-refused_next ls l number (Faults.Text code) clean n h item = fault_first ls l number code clean n h
-refused_next ls l number Faults.Memory clean n h item = record {
-  earlier = ls;
-  line = l;
-  later = [];
-  whole = refl;
-  past = omega arith;
-  item = item refl;
-  clean = clean_more ls l clean h;
-}
+refused_next : (ls : List (List ℕ)) (l : List ℕ) (fault : ItemFault) → IsClean ls
+    → AnswersFault (Err fault) (fault_after ls l) → (fault ≡ Faults.Memory → NeedsAfter ls l)
+    → (let e = refused_at (length ls + 1) fault in let all = ls ++ l ∷ [] in
+    IsRefused (length ls) all e × IsNext (length ls) all e)
+refused_next ls l (Faults.Text code) clean h item = (fault_first ls l code clean h, refl)
+refused_next ls l Faults.Memory clean h item =
+    let all = length-append ls (l ∷ []) in
+    let more = clean_more ls l clean h in (
+      record {
+        earlier = ls;
+        line = l;
+        later = [];
+        whole = refl;
+        past = omega arith;
+        item = item refl;
+        clean = more;
+      },
+      (omega (arith, all), rw (take_all (length ls + 1) (ls ++ l ∷ []) (omega (arith, all))) more),
+    )
 
 -- later lines do not change a refusal
 pub refused_on : (before earlier : ℕ) (ls ms : List (List ℕ)) (e : Refusal) → earlier ≤ before → More ls ms
@@ -80,6 +83,10 @@ refused_on before earlier ls ms Memory b m w = record {
   clean = w.clean;
 }
 refused_on before earlier ls ms _ b m f = absurd f
+
+-- the same lines
+pub all_same : (ls : List (List ℕ)) → More ls ls
+all_same ls = record { rest = []; whole = sym (append-nil ls) }
 
 -- what a reader with this refusal represents, if there is one
 abbrev At : Reader → List ℕ → Option Refusal → Type 0
@@ -134,6 +141,11 @@ stops_on r ls ms e m s =
       next = next_on (length s.before) ls ms e m s.next;
     }
 
+pub refused_after : (r : Reader) (before earlier : ℕ) (ls ms : List (List ℕ)) (e : Refusal) → earlier ≤ before
+    → More ls ms → StopsAfter r before ls e → StopsAfter r earlier ms e
+refused_after r before earlier ls ms e less m h =
+    (h.0, refused_on before earlier ls ms e less m h.1, stops_on r ls ms e m h.2, omega (arith, less, h.3))
+
 pub still_refused : (r : Reader) (t u : List ℕ) (e : Refusal) → r.refusal ≡ Some e → ReaderAt r t → ReaderAt r (t ++ u)
 still_refused r t u e is h =
     let was = refused r t e is h in
@@ -141,30 +153,17 @@ still_refused r t u e is h =
     refuses r (t ++ u) e is
     (refused_on 0 0 (ended t) (ended (t ++ u)) e (omega arith) more was.0, stops_on r (ended t) _ e more was.1)
 
-pub next_after : (ls : List (List ℕ)) (l : List ℕ) (number : ℕ) (fault : ItemFault) → IsClean ls
-    → number ≡ length ls + 1 → AnswersFault (Err fault) (line_fault (length ls + 1) (items_of ls) (said_words l))
-    → IsNext (length ls) (ls ++ l ∷ []) (refused_at number fault)
-next_after ls l number (Faults.Text code) clean n h = n
-next_after ls l number Faults.Memory clean n h =
-    (omega (arith, length-append ls (l ∷ [])), rw (all_of ls l) (clean_more ls l clean h))
-
 -- the next line is refused, and the reader keeps its refusal
 pub refuses_next : (r : Reader) (ls : List (List ℕ)) (l : List ℕ) (fault : ItemFault) (e : Refusal) → TextAt r.text ls
-    → r.refusal ≡ Some e → e ≡ refused_at (length ls + 1) fault
-    → AnswersFault (Err fault) (line_fault (length ls + 1) (items_of ls) (said_words l))
-    → (fault ≡ Faults.Memory → SpellsNeed (items_of ls) (said_words l)) → ClosesLine r ls l (Err e)
-refuses_next r ls l fault e at is said answer item = (
-  is,
-  rw said (refused_next ls l (length ls + 1) fault at.clean refl answer item),
-  record {
-    before = ls;
-    rest = l ∷ [];
-    whole = refl;
-    read = at;
-    next = rw said (next_after ls l (length ls + 1) fault at.clean refl answer);
-  },
-  at.number_is,
-)
+    → r.refusal ≡ Some e → e ≡ refused_at (length ls + 1) fault → AnswersFault (Err fault) (fault_after ls l)
+    → (fault ≡ Faults.Memory → NeedsAfter ls l) → ClosesLine r ls l (Err e)
+refuses_next r ls l fault e at is said answer item =
+    let next = refused_next ls l fault at.clean answer item in (
+      is,
+      rw said next.0,
+      record { before = ls; rest = l ∷ []; whole = refl; read = at; next = rw said next.1 },
+      at.number_is,
+    )
 
 -- what holds of the lines that a refused reader has taken holds of the lines before the refused line
 pub before_refused : (r : Reader) (ls : List (List ℕ)) (e : Refusal) (P : List (List ℕ) → Type 0) → StopsIn r ls e
@@ -183,23 +182,18 @@ more_from t p i n =
 pub more_count : (ls ms : List (List ℕ)) → More ls ms → length ls ≤ length ms
 more_count ls ms m = omega (arith, ap length m.whole, length-append ls m.rest)
 
--- the refusal of all lines is the outcome of the text
-listed_of : (t : List ℕ) (e : Refusal) → IsRefused 0 (lines t) e → Outcome t (Err e)
-listed_of t (Text (Places.Line number) code) h = h
-listed_of t Memory h = h
-listed_of t _ h = absurd h
-
--- the refusal of the complete lines is the outcome of the text
-pub refused_early : (t : List ℕ) (e : Refusal) → IsRefused 0 (ended t) e → Outcome t (Err e)
-refused_early t e h = listed_of t e (refused_on 0 0 (ended t) (lines t) e (omega arith) (lines_more t) h)
+-- a refusal of first lines of the text is the outcome of the text
+pub refused_as : (t : List ℕ) (before : ℕ) (ls : List (List ℕ)) (e : Refusal) → More ls (lines t)
+    → IsRefused before ls e → Outcome t (Err e)
+refused_as t before ls e m h = listed e (refused_on before 0 ls (lines t) e (omega arith) m h)
+  where
+    listed : (e : Refusal) → IsRefused 0 (lines t) e → Outcome t (Err e)
+    listed (Text (Places.Line number) code) h = h
+    listed Memory h = h
+    listed _ h = absurd h
 
 pub refused_before : (r : Reader) (t : List ℕ) (e : Refusal) → r.refusal ≡ Some e → ReaderAt r t → Outcome t (Err e)
-refused_before r t e is h = refused_early t e (refused r t e is h).0
-
-pub refused_last : (t : List ℕ) (before : ℕ) (e : Refusal) → IsRefused before (lines t) e → Outcome t (Err e)
-refused_last t before e h =
-    listed_of t e (refused_on before 0 (lines t) (lines t) e (omega arith)
-    (record { rest = []; whole = sym (append-nil (lines t)) }) h)
+refused_before r t e is h = refused_as t 0 (ended t) e (lines_more t) (refused r t e is h).0
 
 -- the parsed instance of a whole text represents what the text reads as
 pub held_whole : (x : TextSoFar) (t : List ℕ) (held : Parsed) → TextAt x (lines t)
@@ -222,53 +216,38 @@ with_rows r t piece front line none f =
       line = subst (HasOpen r.line) (none ∙ sym (ap (λ (p : Parts). p.1) all)) line;
     }
 
-pub to_steps : (r : Reader) (t piece : List ℕ) (result : Result ℕ Refusal) → IfOk result (λ n. n ≡ used_of piece)
-    → Advances r t (t ++ take (used_of piece) piece) result → Steps r t piece result
-to_steps r t piece (Ok n) u a = subst (λ k. IsReading r (t ++ take k piece)) (sym u) a
-to_steps r t piece (Err e) u a = (used_of piece, a)
-
--- one more line
-closed_push : (more : List (List ℕ)) (l : List ℕ) → closed_lines (more ++ l ∷ []) ≡ closed_lines more ++ (l ++ 10 ∷ [])
-closed_push [] l = append-nil (l ++ 10 ∷ [])
-closed_push (m ∷ more) l =
-    ap (λ x. (m ++ 10 ∷ []) ++ x) (closed_push more l)
-    ∙ sym (append_assoc (m ++ 10 ∷ []) (closed_lines more) (l ++ 10 ∷ []))
-
 inner_push : (more : List (List ℕ)) (l : List ℕ) → AreInner more → list_all is_inner l ≡ true
     → AreInner (more ++ l ∷ [])
 inner_push [] l h i = (i, tt)
 inner_push (m ∷ more) l h i = (h.0, inner_push more l h.1 i)
 
+-- lines with their LFs that follow the complete lines are the first complete lines of what follows
+more_on : (t : List ℕ) (all : List (List ℕ)) (rest piece : List ℕ) → open_of t ≡ [] → AreInner all
+    → closed_lines all ++ rest ≡ piece → More (ended t ++ all) (ended (t ++ piece))
+more_on t all rest piece none inner e =
+    rw (← e, ← append_assoc, ← ap (λ (p : Parts). p.0) (closed_more t all none inner))
+    (ended_more (t ++ closed_lines all) rest)
+
 -- a row of the piece is refused, and the reader keeps its refusal
 pub front_refused : (r : Reader) (t piece : List ℕ) (front : RowsTaken) (fault : ItemFault) (e : Refusal)
     → open_of t ≡ []
     → front.fault ≡ Some fault → ReadsRows r.text (ended t) piece front → r.refusal ≡ Some e
-    → ((ls : List (List ℕ)) → TextAt r.text ls → e ≡ refused_at (length ls + 1) fault) → Steps r t piece (Err e)
+    → ((ls : List (List ℕ)) → TextAt r.text ls → e ≡ refused_at (length ls + 1) fault)
+    → (n : ℕ) × Unit {0} × Advances r t (t ++ take n piece) (Err e)
 front_refused r t piece front fault e none is reads refusal said =
     let ls = ended t ++ reads.more in
     let s : IsRefusedRow ls (drop front.used piece) fault =
     subst (RefusesRow ls (drop front.used piece)) is reads.stops in
-    let line = s.line ++ 10 ∷ [] in
     let all = reads.more ++ s.line ∷ [] in
-    let bytes : take (front.used + length line) piece ≡ closed_lines all =
-    take-add front.used (length line) piece
-    ∙ ap (λ x. x ++ take (length line) (drop front.used piece)) (sym reads.whole)
-    ∙ ap (λ x. closed_lines reads.more ++ take (length line) x)
-    (sym s.whole ∙ sym (append_assoc s.line (10 ∷ []) s.rest))
-    ∙ ap (λ x. closed_lines reads.more ++ x) (take-append_seam line s.rest) ∙ sym (closed_push reads.more s.line) in
-    let lines : ended (t ++ take (front.used + length line) piece) ≡ ls ++ s.line ∷ [] =
-    ap (λ x. ended (t ++ x)) bytes
-    ∙ ap (λ (p : Parts). p.0) (closed_more t all none (inner_push reads.more s.line reads.inner s.inner))
-    ∙ sym (append_assoc (ended t) reads.more (s.line ∷ [])) in
-    let takes = refuses_next r ls s.line fault e reads.read refusal (said ls reads.read) s.answer s.needs in
-    let more : length ls ≡ length (ended t) + length reads.more = length-append (ended t) reads.more in (
-      front.used + length line,
-      (
-        takes.0,
-        subst (λ x. IsRefused (length (ended t)) x e) (sym lines)
-            (refused_on (length ls) (length (ended t)) (ls ++ s.line ∷ []) (ls ++ s.line ∷ []) e (omega arith)
-            (record { rest = []; whole = sym (append-nil (ls ++ s.line ∷ [])) }) takes.1),
-        subst (λ x. StopsIn r x e) (sym lines) takes.2,
-        (let n = takes.3 in omega arith),
-      ),
+    let whole : closed_lines all ++ s.rest ≡ take (length piece) piece =
+    rw (flat_map-append _ reads.more (s.line ∷ []), reads.whole, append-nil, append_assoc, append_assoc, s.whole)
+    (take-append-drop front.used piece ∙ sym (take_all (length piece) piece (omega arith))) in
+    let m : More (ls ++ s.line ∷ []) (ended (t ++ take (length piece) piece)) =
+    rw append_assoc
+    (more_on t all s.rest _ none (inner_push reads.more s.line reads.inner s.inner) whole) in
+    let takes = refuses_next r ls s.line fault e reads.read refusal (said ls reads.read) s.answer s.needs in (
+      length piece,
+      tt,
+      refused_after r (length ls) _ _ _ e (omega (arith, length-append (ended t) reads.more)) m
+          (takes.0, takes.1, takes.2, omega (arith, takes.3)),
     )

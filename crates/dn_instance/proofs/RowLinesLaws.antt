@@ -1,5 +1,5 @@
 -- Lemmas on the lines of rows that are taken one after another.
-use Rattle.std.proofs.Common.{◌≡◌, ◌<◌, ◌≤◌, ◌+◌, ◌-◌, ◌^◌, ℕ, zero, suc, List, [], ◌∷◌, ◌++◌, length, map, take, drop, false, Option, Some, None, Ok, Err, refl, sym, ap, ◌∙◌, arith, append-nil, append_assoc, length-append, inl, inr, length-take-le}
+use Rattle.std.proofs.Common.{◌≡◌, ◌<◌, ◌≤◌, ◌+◌, ◌-◌, ◌^◌, ℕ, ℤ, zero, suc, List, [], ◌∷◌, ◌++◌, length, map, take, drop, false, Option, Some, None, Ok, Err, refl, sym, ap, ◌∙◌, arith, append-nil, append_assoc, length-append, inl, inr, length-take-le}
 use Rattle.std.proofs.Math.Nat.{add-sub_cancel}
 use Rattle.std.proofs.lemmas.Bool.{cases_Bool, cases_eq, ne_eqb}
 use Rattle.std.specs.List.{AllByRecursion}
@@ -25,7 +25,7 @@ use Rattle.dn_line.specs.declared.word.Keyword.TheVariants as Key
 use Rattle.dn_line.specs.declared.word.Word.{Word}
 use Rattle.dn_line.proofs.RowLaws.{ReadsAs, row_item}
 use Rattle.dn_instance.specs.Items.{Problem, kind_known, problem_of}
-use Rattle.dn_instance.specs.State.Bodies.{StopsAtRow}
+use Rattle.dn_instance.specs.State.Bodies.{Awaits, StopsAtRow, TookRows}
 use Rattle.dn_instance.specs.declared.body.Taken.{Taken}
 use Rattle.dn_instance.specs.declared.refusal.ItemFault.{ItemFault}
 use Rattle.dn_instance.specs.State.RowRuns.{AreFaultless, AreInTime, HasSigns, IsInTime, IsRowHead, counted_head, counted_line, row_items, row_line, run_head, supply_line}
@@ -37,7 +37,7 @@ use Rattle.dn_instance.specs.declared.text_so_far.TextSoFar.{TextSoFar}
 use Rattle.dn_instance.proofs.CleanItems.{items_push, clean_more, fault_is_next, in_time}
 use Rattle.dn_instance.proofs.FirstFaults.{fault_after}
 use Rattle.dn_instance.proofs.FollowLaws.{adds_it, fields_signs, follows_as, head_agrees, head_skips, same_fault, then_fields}
-use Rattle.dn_instance.proofs.ItemSteps.{problem_all}
+use Rattle.dn_instance.proofs.ItemSteps.{problem_all, with_lines}
 use Rattle.dn_instance.proofs.OrderLaws.{in_time_split}
 
 -- the letter is that of lines with this head, and the numbers of a row make the item
@@ -263,22 +263,20 @@ module _ (kind : Kind) (byte : ℕ) (head : Head) (row : IsRowHead kind head) (r
         }
 
     -- the lines of the rows that were taken have been read, and the next line has the fault
-    pub front_read : (now : TextSoFar) (rows : List RowLine) (t : Taken) (bytes rest : List ℕ) (ls : List (List ℕ))
-        (p : Problem) (front : RowsTaken) → ReadUpTo kind byte bytes rows rest → IsClean ls
-        → problem_of (items_of ls) ≡ Some p → p.kind ≡ kind
-        → AreFaultless (items_of ls) (row_items line (take t.rows rows))
-        → AreInTime head (items_of ls) (row_items line rows)
-        → StopsAtRow line (items_of ls ++ row_items line (take t.rows rows)) (drop t.rows rows) t.fault
-        → t.rows ≤ length rows → length ls + length rows < 2 ^ 63 - 2 → now.closed ≡ length ls + t.rows
-        → HasRead now (items_of ls ++ row_items line (take t.rows rows))
-        → front.used ≡ length bytes - last_left (length bytes) (take t.rows rows) → front.fault ≡ t.fault
-        → ReadsRows now ls bytes front
-    front_read now rows t bytes rest ls p front u clean problem is f early s within few number held used fault =
+    pub front_read : (u : TextSoFar) (n : ℕ) (nodes : ℤ) (rows : List RowLine) (t : Taken) (bytes rest : List ℕ)
+        (ls : List (List ℕ)) (front : RowsTaken) → ReadUpTo kind byte bytes rows rest → IsClean ls
+        → Awaits kind nodes (items_of ls) (row_items line rows) → AreInTime head (items_of ls) (row_items line rows)
+        → TookRows line (items_of ls) (HasRead u) rows t → t.rows ≤ length rows → length ls + length rows < 2 ^ 63 - 2
+        → n ≡ length ls + t.rows → front.used ≡ length bytes - last_left (length bytes) (take t.rows rows)
+        → front.fault ≡ t.fault → ReadsRows (record u { closed = n }) ls bytes front
+    front_read u n nodes rows t bytes rest ls front r clean a early took within few number used fault =
         let taken = take t.rows rows in
-        let split = split_at rows t.rows bytes rest u in
+        let split = split_at rows t.rows bytes rest r in
         let times = in_time_split head line rows t.rows (items_of ls) early in
         let long : length taken ≡ t.rows = length-take-le t.rows rows within in
-        let on = run_on taken bytes split.0 ls p split.1 clean problem is f times.0 (omega arith) in
+        let on =
+        run_on taken bytes split.0 ls a.problem split.1 clean a.problem_is a.kind_is took.joins.faultless times.0
+        (omega arith) in
         let left : front.used ≡ length bytes - length split.0 = rw split.2 used in
         let lines : length (ls ++ on.more) ≡ length ls + t.rows = omega (arith, on.number) in
         record {
@@ -289,13 +287,13 @@ module _ (kind : Kind) (byte : ℕ) (head : Head) (row : IsRowHead kind head) (r
             clean = on.clean;
             few = omega arith;
             number_is = number ∙ sym lines;
-            items_are = rw on.items held;
+            items_are = rw on.items (with_lines u n _ took.joins.holds);
           };
           stops =
               rw (fault, left, after_front _ split.0 bytes on.whole)
-              (refuses (drop t.rows rows) split.0 rest (ls ++ on.more) p t.fault split.3
-              (ap problem_of on.items ∙ problem_all (items_of ls) (row_items line taken) p problem) is
-              (rw on.items times.1) (rw on.items s) (omega arith));
+              (refuses (drop t.rows rows) split.0 rest (ls ++ on.more) a.problem t.fault split.3
+              (ap problem_of on.items ∙ problem_all (items_of ls) (row_items line taken) a.problem a.problem_is)
+              a.kind_is (rw on.items times.1) (rw on.items took.stops) (omega arith));
         }
       where
         -- the first m of these lines, and those after them

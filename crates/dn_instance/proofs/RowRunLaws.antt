@@ -20,18 +20,17 @@ use Rattle.dn_line.specs.declared.line.Line.TheVariants as Item
 use Rattle.dn_line.specs.declared.row.Row.{Row}
 use Rattle.dn_line.specs.declared.row_block.RowLine.{RowLine}
 use Rattle.dn_instance.specs.State.RowRuns.{AreFaultless, HasSigns, IsRowHead, Joins, counted_head, counted_line, row_items, row_line, supply_line}
-use Rattle.dn_instance.specs.State.TextParts.{AnyBody, BodyHolds, TakesMark, any_body, body_kind, marks_of}
+use Rattle.dn_instance.specs.State.TextParts.{AnyBody, BodyHolds, MarksHold, body_kind}
 use Rattle.dn_instance.specs.Items.{counted, is_counted, problem_in}
-use Rattle.dn_instance.specs.State.TextsSoFar.{AwaitsRow, HasRead, IsOfRun, RoomFor, TakesRowOf, problem_as, text_kind, text_taker}
+use Rattle.dn_instance.specs.State.TextsSoFar.{AwaitsRow, HasRead, IsOfRun, RoomFor, TakesRowOf, problem_as, text_kind}
 use Rattle.dn_instance.specs.TextFaults.{is_arc, is_companion, item_tests}
 use Rattle.dn_instance.specs.declared.marks.Marks.{Marks}
 use Rattle.dn_instance.specs.declared.text_so_far.TextSoFar.{TextSoFar}
 use Rattle.dn_instance.proofs.MarksLaws.{marks_kept, rows_no_mark}
 use Rattle.dn_instance.proofs.ItemSteps.{body_read, has_due, marks_read, kind_agrees, kind_of_item, problem_agrees, problem_all}
-use Rattle.dn_instance.specs.State.Bodies.{AnswersItem, Awaits, TakerFacts, StopsAtRow, TakesRows, TookRow, TookRows}
+use Rattle.dn_instance.specs.State.Bodies.{AnswersItem, Awaits, Keeps, StopsAtRow, TakesRow, TakesRows, TookRow, TookRows}
 use Rattle.dn_instance.specs.declared.body.Taken.{Taken}
 use Rattle.dn_instance.specs.declared.refusal.ItemFault.{ItemFault}
-use Rattle.dn_instance.specs.declared.refusal.ItemFault.TheVariants as ItemFaults
 
 -- items without a fault, followed by one more, have no fault
 faultless_more : (before items : List Line) (i : Line) → AreFaultless before items
@@ -39,14 +38,6 @@ faultless_more : (before items : List Line) (i : Line) → AreFaultless before i
 faultless_more before [] i h f = (rw append-nil at f, tt)
 faultless_more before (x ∷ items) i h f =
     (h.0, faultless_more (before ++ x ∷ []) items i h.1 (rw (append_assoc before (x ∷ []) items) f))
-
-pub joins_more : {H : Type 0} (Holds : H → List Line → Type 0) (before : List Line) (held more : H) (items : List Line)
-    (i : Line) → Joins Holds before held items → first_fault (item_tests (before ++ items) (Some i)) ≡ None
-    → Holds more ((before ++ items) ++ i ∷ []) → Joins Holds before more (items ++ i ∷ [])
-joins_more Holds before held more items i j f h = record {
-  faultless = faultless_more before items i j.faultless f;
-  holds = rw append_assoc at h;
-}
 
 -- the items of the first rows and of the next row
 pub items_next : (line : Row → Line) (rows : List RowLine) (i : ℕ) (d : RowLine) → i < length rows
@@ -84,58 +75,46 @@ rows_arcs kind (r ∷ rows) g = rw (one_arc kind r g, one_counted kind r) (above
     above : (k : ℕ) → true ≡ int_lt (pos 0) (pos (suc k))
     above k = grind (arith, ints, nat_tests)
 
-none_counted : (rows : List RowLine) → filter is_counted (row_items supply_line rows) ≡ []
-none_counted [] = refl
-none_counted (r ∷ rows) = none_counted rows
-
-no_arcs : (rows : List RowLine) → list_any is_arc (row_items supply_line rows) ≡ false
-no_arcs [] = refl
-no_arcs (r ∷ rows) = no_arcs rows
-
-none_free : (rows : List RowLine) → AllByRecursion (λ i. is_counted i ≡ false) (row_items supply_line rows)
-none_free [] = tt
-none_free (r ∷ rows) = (refl, none_free rows)
+none_counted : (rows : List RowLine) → (let items = row_items supply_line rows in
+    AllByRecursion (λ i. is_counted i ≡ false) items × (filter is_counted items ≡ []) × (list_any is_arc items ≡ false))
+none_counted [] = (tt, refl, refl)
+none_counted (r ∷ rows) = let more = none_counted rows in ((refl, more.0), more.1, more.2)
 
 -- at most all rows are taken
 pub within_all : {F : Type 0} (fault : Option F) (m n : ℕ) → MatchOption fault (m ≤ n) (λ f. m < n) → m ≤ n
 within_all None m n h = h
 within_all (Some f) m n h = omega arith
 
-module _ {T : Type 0} (taker : TakerFacts T) (line : Row → Line) (nodes : ℤ) (before : List Line)
-    (rows : List RowLine) where
-  -- the next row comes after the items of the rows that were taken
-  pub awaits_next : (old now : T) (i : ℕ) (d : RowLine) → i < length rows
-      → Awaits taker nodes old before (row_items line rows)
-      → Joins taker.Holds before now (row_items line (take i rows))
-      → Awaits taker nodes now (before ++ row_items line (take i rows)) (line (get_or rows i d).row ∷ [])
-  awaits_next old now i d h a j = record {
-    problem = a.problem;
-    problem_is = problem_all before (row_items line (take i rows)) a.problem a.problem_is;
-    kind_is = a.kind_is;
-    nodes_are = a.nodes_are;
-    signs = (sign_at line rows i d h a.signs, tt);
-    holds = j.holds;
-  }
+-- the row at a position is taken after the items of the rows before it
+module _ (kind : Kind) (line : Row → Line) (nodes : ℤ) (before : List Line) (rows : List RowLine)
+    (Was Now : List Line → Type 0) (i : ℕ) (d : RowLine) (r : Result (Unit {0}) ItemFault) (here : i < length rows)
+    (takes : TakesRow kind nodes Was Now (line (get_or rows i d).row) r)
+    (a : Awaits kind nodes before (row_items line rows)) (j : Joins Was before (row_items line (take i rows))) where
+  took : TookRow (before ++ row_items line (take i rows)) Now (line (get_or rows i d).row) r
+  took =
+      takes _ (record {
+        problem = a.problem;
+        problem_is = problem_all before (row_items line (take i rows)) a.problem a.problem_is;
+        kind_is = a.kind_is;
+        nodes_are = a.nodes_are;
+        signs = (sign_at line rows i d here a.signs, tt);
+      }) j.holds
 
-  pub one_more : (now new : T) (i : ℕ) (d : RowLine) (r : Result (Unit {0}) ItemFault) (x : Unit {0}) → r ≡ Ok x
-      → i < length rows → Joins taker.Holds before now (row_items line (take i rows))
-      → TookRow taker line (before ++ row_items line (take i rows)) new (get_or rows i d).row r
-      → Joins taker.Holds before new (row_items line (take (i + 1) rows))
-  one_more now new i d r x e h j t =
-      let ok = rw e at t in
-      rw (items_next line rows i d h) (joins_more taker.Holds before now new (row_items line (take i rows))
-      (line (get_or rows i d).row) j ok.answer.fault ok.holds)
+  pub one_more : (x : Unit {0}) → r ≡ Ok x → Joins Now before (row_items line (take (i + 1) rows))
+  one_more x e =
+      let ok = rw e at took in
+      rw (items_next line rows i d here) (record {
+        faultless = faultless_more before (row_items line (take i rows)) _ j.faultless ok.answer.fault;
+        holds = rw append_assoc at ok.holds;
+      })
 
-  pub stopped : (now new : T) (i : ℕ) (d : RowLine) (r : Result (Unit {0}) ItemFault) (e : ItemFault) → r ≡ Err e
-      → i < length rows → Joins taker.Holds before now (row_items line (take i rows))
-      → TookRow taker line (before ++ row_items line (take i rows)) new (get_or rows i d).row r
-      → taker.Holds new (before ++ row_items line (take i rows))
-      → TookRows taker line before new rows (record { rows = i; fault = Some e })
-  stopped now new i d r e is h j t kept =
-      let err = subst (TookRow taker line (before ++ row_items line (take i rows)) new (get_or rows i d).row) is t in
+  pub stopped : (e : ItemFault) → r ≡ Err e → OnErr r (Keeps Was Now)
+      → TookRows line before Now rows (record { rows = i; fault = Some e })
+  stopped e is kept =
+      let err = rw is at took in
       record {
-        joins = record { faultless = j.faultless; holds = kept };
-        stops = at_row (before ++ row_items line (take i rows)) rows i h err.answer;
+        joins = record { faultless = j.faultless; holds = (rw is at kept) _ j.holds };
+        stops = at_row (before ++ row_items line (take i rows)) rows i here err.answer;
       }
     where
       at_row : (items : List Line) (rs : List RowLine) (i : ℕ) → i < length rs
@@ -144,80 +123,72 @@ module _ {T : Type 0} (taker : TakerFacts T) (line : Row → Line) (nodes : ℤ)
       at_row items (x ∷ rs) zero h a = a
       at_row items (x ∷ rs) (suc i) h a = at_row items rs i (omega arith) a
 
-pub kept_on_error : {P : Type 0} (r : Result (Unit {0}) ItemFault) (e : ItemFault) → r ≡ Err e → OnErr r P → P
-kept_on_error (Ok x) e h p = cc
-kept_on_error (Err f) e h p = p
-
 -- no counted line has the head of node lines
 pub not_node : (kind : Kind) → Heads.Node ≡ counted_head kind → ⊥
 not_node Min e = cc
 not_node _ e = cc
 
-module _ {T : Type 0} (part : TakerFacts T) (old new : T) (t u : TextSoFar) (line : Row → Line) (rows : List RowLine)
-    (r : Taken) where
-  abbrev text : TakerFacts TextSoFar
-  text = text_taker part.kind
+-- the text has the kind of the problem
+kind_awaited : (t : TextSoFar) (kind : Kind) (nodes : ℤ) (before next : List Line) → Awaits kind nodes before next
+    → HasRead t before → text_kind t ≡ Some kind
+kind_awaited t kind nodes before next a at = sym (kind_agrees t before at) ∙ rw (a.problem_is, a.kind_is)
 
-  -- the rows that a part of a text has taken are taken by the text, if the part holds what the text has read before
-  -- them, and the text has read what the part holds after them
-  part_run : TakesRows part line t.nodes old new rows r
-      → ((before : List Line) → text.Holds t before → part.Holds old before)
-      → ((before : List Line) → text.Holds t before → part.Holds new (before ++ row_items line (take r.rows rows))
-      → text.Holds u (before ++ row_items line (take r.rows rows)))
-      → (before : List Line) → Awaits text t.nodes t before (row_items line rows) → TookRows text line before u rows r
-  part_run takes enters leaves before a =
-      let took = takes before (record {
-        problem = a.problem;
-        problem_is = a.problem_is;
-        kind_is = a.kind_is;
-        nodes_are = a.nodes_are;
-        signs = a.signs;
-        holds = enters before a.holds;
-      }) in
-      record {
-        joins = record { faultless = took.joins.faultless; holds = leaves before a.holds took.joins.holds };
-        stops = took.stops;
-      }
+pub awaits_as : (t : TextSoFar) (kind : Kind) (before next : List Line) → HasRead t before → text_kind t ≡ Some kind
+    → AllByRecursion HasSigns next → Awaits kind t.nodes before next
+awaits_as t kind before next at is signs = record {
+  problem = problem_as t kind;
+  problem_is = problem_agrees t before kind at is;
+  kind_is = refl;
+  nodes_are = refl;
+  signs = signs;
+}
 
 -- rows of `min` node lines have been taken
 pub marks_run : (t : TextSoFar) (h : Marks) (kind : Kind) (head : Head) (rows : List RowLine) (r : Taken)
-    → head ≡ Heads.Node → IsRowHead kind head → TakesRows marks_of supply_line t.nodes t.marks h rows r
-    → (before : List Line) → Awaits (text_taker kind) t.nodes t before (row_items (row_line kind head) rows)
-    → TookRows (text_taker kind) (row_line kind head) before (record t { marks = h }) rows r
+    → head ≡ Heads.Node → IsRowHead kind head
+    → TakesRows Min supply_line t.nodes (MarksHold t.marks) (MarksHold h) rows r
+    → TakesRows kind (row_line kind head) t.nodes (HasRead t) (HasRead (record t { marks = h })) rows r
 marks_run t h kind head rows r node is takes = elim is [
-  | inl e ↦ rw (e.0, e.1)
-      (part_run marks_of t.marks h t (record t { marks = h }) supply_line rows r takes (λ before at. at.1.marks_hold)
-      (λ before at held.
-      let first = take r.rows rows in (
-        at.0,
-        marks_read t h before (row_items supply_line first) Min at.1 at.0 (none_free first) (none_counted first)
-            (no_arcs first) held,
-      )))
+  | inl e ↦ rw (e.0, e.1) (λ before a at.
+      let took = takes before a at.marks_hold in
+      let none = none_counted (take r.rows rows) in
+      record {
+        joins = record {
+          faultless = took.joins.faultless;
+          holds =
+              marks_read t h before _ Min at (kind_awaited t Min t.nodes before _ a at) none.0 none.1 none.2
+              took.joins.holds;
+        };
+        stops = took.stops;
+      })
   | inr e ↦ absurd (not_node kind (sym node ∙ e))
 ]
 
 -- rows of counted lines have been taken
 pub body_run : (t : TextSoFar) (b b' : AnyBody) (kind : Kind) (head : Head) (rows : List RowLine) (r : Taken) (d : ℤ)
     → t.body ≡ Some b → (head ≡ Heads.Node → ⊥) → IsRowHead kind head → r.rows ≤ length rows
-    → TakesRows (any_body kind) (counted_line kind) t.nodes b b' rows r → body_kind b' ≡ body_kind b
-    → d ≡ t.due -ℤ pos r.rows → pos 0 ≤ℤ d
-    → (before : List Line) → Awaits (text_taker kind) t.nodes t before (row_items (row_line kind head) rows)
-    → TookRows (text_taker kind) (row_line kind head) before (record t { due = d; body = Some b' }) rows r
+    → TakesRows (body_kind b) (counted_line (body_kind b)) t.nodes (BodyHolds b) (BodyHolds b') rows r
+    → body_kind b' ≡ body_kind b → d ≡ t.due -ℤ pos r.rows → pos 0 ≤ℤ d
+    → TakesRows kind (row_line kind head) t.nodes (HasRead t) (HasRead (record t { due = d; body = Some b' })) rows r
 body_run t b b' kind head rows r d body counts is within takes same due some = elim is [
   | inl e ↦ absurd (counts e.0)
-  | inr e ↦ rw e
-      (part_run (any_body kind) b b' t (record t { due = d; body = Some b' }) (counted_line kind) rows r takes
-      (λ before at. (own_kind (rw body at at.0), rw body at at.1.body_holds))
-      (λ before at held.
-      let own : body_kind b ≡ kind = own_kind (rw body at at.0) in
+  | inr e ↦ rw e (λ before a at.
+      let of = kind_awaited t kind t.nodes before _ a at in
+      let own : body_kind b ≡ kind = own_kind (rw body at of) in
+      let took = subst (λ k. TakesRows k (counted_line k) t.nodes (BodyHolds b) (BodyHolds b') rows r) own takes
+      before a (rw body at at.body_holds) in
       let first = take r.rows rows in
       let items = row_items (counted_line kind) first in
-      let long : counted items ≡ r.rows = all_counted kind first ∙ length-take-le r.rows rows within in (
-        ap Some (same ∙ own),
-        body_read t b' before items kind d at.1 at.0 (same ∙ own) (rows_arcs kind first)
-            (rw long (omega (arith, ints, due))) some
-            (marks_kept t.marks before items (rows_no_mark kind first) at.1.marks_hold) held.1,
-      )))
+      let long : counted items ≡ r.rows = all_counted kind first ∙ length-take-le r.rows rows within in
+      record {
+        joins = record {
+          faultless = took.joins.faultless;
+          holds = body_read t b' before items kind d at of (same ∙ own) (rows_arcs kind first)
+              (rw long (omega (arith, ints, due))) some
+              (marks_kept t.marks before items (rows_no_mark kind first) at.marks_hold) took.joins.holds;
+        };
+        stops = took.stops;
+      })
 ]
   where
     own_kind : {k l : Kind} → Some k ≡ Some l → k ≡ l
@@ -265,13 +236,10 @@ row_head_is _ _ row h p n = first_of (cc, search rules)
 
 -- a run of the row of the next line
 pub took_one : (t u : TextSoFar) (head : Head) (row : Row) (k : Taken)
-    → (let line : RowLine = record { row = row; left = 0 } in (kind : Kind) (before : List Line) → IsRowHead kind head
-    → RoomFor head (line ∷ []) t
-    → Awaits (text_taker kind) t.nodes t before (row_items (row_line kind head) (line ∷ []))
-    → TookRows (text_taker kind) (row_line kind head) before u (line ∷ []) k) → IsOfRun t head → (before : List Line)
-    → AwaitsRow t before (item_of_row head (text_kind t) row)
-    → (kind : Kind) × (text_kind t ≡ Some kind)
-    × TookRows (text_taker kind) (row_line kind head) before u (record { row = row; left = 0 } ∷ []) k
+    → (let rows : List RowLine = record { row = row; left = 0 } ∷ [] in (kind : Kind) → IsRowHead kind head
+    → RoomFor head rows t → TakesRows kind (row_line kind head) t.nodes (HasRead t) (HasRead u) rows k)
+    → IsOfRun t head → (before : List Line) → AwaitsRow t before (item_of_row head (text_kind t) row)
+    → TookRows (item_of_row head (text_kind t)) before (HasRead u) (record { row = row; left = 0 } ∷ []) k
 took_one t u head row k takes run before a = by own.0 own.1
   where
     i : Line
@@ -280,53 +248,43 @@ took_one t u head row k takes run before a = by own.0 own.1
     own : (kind : Kind) × (kind_before i ≡ Some kind)
     own = kind_of_item i (row_no_problem head (text_kind t) row run.no_problem) a.may.spelled
 
-    by : (kind : Kind) → kind_before i ≡ Some kind → (kind : Kind) × (text_kind t ≡ Some kind)
-        × TookRows (text_taker kind) (row_line kind head) before u (record { row = row; left = 0 } ∷ []) k
+    by : (kind : Kind) → kind_before i ≡ Some kind
+        → TookRows (item_of_row head (text_kind t)) before (HasRead u) (record { row = row; left = 0 } ∷ []) k
     by kind of =
         let is : text_kind t ≡ Some kind = sym (kind_agrees t before a.read) ∙ a.may.kind_is ∙ of in
         let row_is : IsRowHead kind head =
         row_head_is head kind row (ap (λ o. kind_before (item_of_row head o row)) (sym is) ∙ of) run.no_problem
-        (λ n m. run.no_terminal n (is ∙ ap Some m)) in (
-          kind,
-          is,
-          takes kind before row_is (λ counts. elim row_is [
-            | inl e ↦ absurd (counts e.0)
-            | inr e ↦
-                has_due t before i kind a.read is a.may.room
-                (ap (λ o. is_counted (item_of_row head o row)) is
-                ∙ ap (λ h. is_counted (item_of_row h (Some kind) row)) e
-                ∙ one_counted kind (record { row = row; left = 0 }))
-          ]) (record {
-            problem = problem_as t kind;
-            problem_is = problem_agrees t before kind a.read is;
-            kind_is = refl;
-            nodes_are = refl;
-            signs = (subst (λ o. HasSigns (item_of_row head o row)) is a.may.signs, tt);
-            holds = (is, a.read);
-          }),
-        )
+        (λ n m. run.no_terminal n (is ∙ ap Some m)) in
+        rw is (takes kind row_is (λ counts. elim row_is [
+          | inl e ↦ absurd (counts e.0)
+          | inr e ↦
+              has_due t before i kind a.read is a.may.room
+              (ap (λ o. is_counted (item_of_row head o row)) is
+              ∙ ap (λ h. is_counted (item_of_row h (Some kind) row)) e
+              ∙ one_counted kind (record { row = row; left = 0 }))
+        ]) before (awaits_as t kind before _ a.read is (rw is at a.may.signs, tt)) a.read)
 
 -- a `max` node line that the marks take is taken by the text
 pub terminal_read : (t : TextSoFar) (h : Marks) (head : Head) (row : Row) (r : Result (Unit {0}) ItemFault)
     → head ≡ Heads.Node → text_kind t ≡ Some Max
-    → TakesMark t.nodes t.marks h (Item.Terminal row.first (letter_named row.second)) r
-    → (r ≡ Err ItemFaults.Memory → ⊥) → TakesRowOf t (record t { marks = h }) head row r
-terminal_read t h head row r node is takes never = rw (node, is) (λ before a.
-    let i = Item.Terminal row.first (letter_named row.second) in
-    let took = takes before (problem_as t Max) (problem_agrees t before Max a.read is) refl refl a.read.marks_hold in (
-      record { fault = took.0; memory = λ e. absurd (never e) },
-      on_ok_weaker r (λ held. marks_read t h before (i ∷ []) Max a.read is (refl, tt) refl refl held) took.1,
-    ))
+    → TakesRow Max t.nodes (MarksHold t.marks) (MarksHold h) (Item.Terminal row.first (letter_named row.second)) r
+    → TakesRowOf t (record t { marks = h }) head row r
+terminal_read t h head row r node is takes = rw (node, is) (λ before a.
+    let took = takes before (awaits_as t Max before _ a.read is (tt, tt)) a.read.marks_hold in
+    record {
+      answer = took.answer;
+      holds = on_ok_weaker r (λ held. marks_read t h before _ Max a.read is (refl, tt) refl refl held) took.holds;
+    })
 
 -- a run of one row
-module _ {T : Type 0} (taker : TakerFacts T) (line : Row → Line) (before : List Line) (held : T) (row : RowLine)
-    (t : Taken) (took : TookRows taker line before held (row ∷ []) t) where
-  pub one_refused : (f : ItemFault) → t.fault ≡ Some f → t.rows < 1 → TookRow taker line before held row.row (Err f)
+module _ (line : Row → Line) (before : List Line) (Now : List Line → Type 0) (row : RowLine) (t : Taken)
+    (took : TookRows line before Now (row ∷ []) t) where
+  pub one_refused : (f : ItemFault) → t.fault ≡ Some f → t.rows < 1 → TookRow before Now (line row.row) (Err f)
   one_refused f is few =
       let zero : t.rows ≡ 0 = omega arith in
       record { answer = rw (is, zero, append-nil before) at took.stops; holds = tt }
 
-  pub one_taken : t.fault ≡ None → t.rows ≤ 1 → TookRow taker line before held row.row (Ok tt)
+  pub one_taken : t.fault ≡ None → t.rows ≤ 1 → TookRow before Now (line row.row) (Ok tt)
   one_taken is few = elim (cases_eq t.rows 0) [
     | inl none ↦ cc (rw (is, none) at took.stops)
     | inr some ↦

@@ -1,13 +1,15 @@
 // Takes the rows of counted lines as they arrive.
-ghost use Rattle.std.specs.Prelude.{◌≡◌, ◌<◌, ◌≤◌, ◌^◌, ℤ, List, [], Option, OnErr, MatchOption, length};
+ghost use Rattle.std.specs.Prelude.{◌≡◌, ◌<◌, ◌≤◌, ℤ, List, [], Option, OnErr, MatchOption, length};
 ghost use Rattle.dn_line.specs.declared.kind.Kind.{Kind};
 ghost use Rattle.dn_line.specs.declared.kind.Kind.TheVariants.{Co, P2p, Ss};
 ghost use Rattle.dn_line.specs.declared.line.Line.{Line};
 ghost use Rattle.dn_line.specs.declared.row.Row.{Row};
-ghost use Rattle.dn_instance.specs.Items.{length_arc_in, cap_arc_in, cost_arc_in};
+ghost use Rattle.dn_instance.specs.Items.{length_arc_in, cap_arc_in, cost_arc_in, source_in, query_in, point_in};
+ghost use Rattle.dn_instance.specs.TextFaults.{has_point};
+ghost use Rattle.dn_arc.specs.State.Bundles.{meant};
 ghost use Rattle.dn_instance.specs.State.RowRuns.{counted_line};
-ghost use Rattle.dn_instance.specs.State.TextParts.{BodyCounts, BodyTakes, BodyHolds, IsSorted, any_body, body_kind};
-ghost use Rattle.dn_instance.specs.State.Bodies.{IsArcOfRow, Keeps, TakerFacts, TakesRow, TakesRows, ids_body, pairs_body, points_body, table_body};
+ghost use Rattle.dn_instance.specs.State.TextParts.{BodyCounts, BodyHolds, IsSorted, body_kind};
+ghost use Rattle.dn_instance.specs.State.Bodies.{IsArcOfRow, Keeps, ListHolds, MapHolds, TableHolds, TakesRow, TakesRows};
 
 use crate::ahead;
 use crate::arcs::take_arc;
@@ -21,16 +23,19 @@ use std::alloc::Global;
 
 // What takes the rows of lines of one letter as they arrive.
 pub(crate) trait RowTaker: Sized {
-    // What the taker specifies about itself: its kind of text, and what it holds of items.
-    ghost taker: { TakerFacts Self };
+    // The kind of text.
+    ghost kind: { Kind };
 
     // The item of a row.
     ghost line: { Row → Line };
 
+    // The taker holds what these items make.
+    ghost holds: { Self → List Line → Type 0 };
+
     // Takes the row of the next line, or returns the fault of its item.
     fn take(&mut self, alloc: Global, nodes: &i64, row: &Row) -> Result<(), ItemFault>
-        ensures taken { TakesRow taker line nodes.now self.old self.new row.now result }
-        ensures unchanged { OnErr result (Keeps taker self.old self.new) };
+        ensures taken { TakesRow kind nodes.now (holds self.old) (holds self.new) (line row.now) result }
+        ensures unchanged { OnErr result (Keeps (holds self.old) (holds self.new)) };
 
     // Looks ahead at the next rows, if that saves time. This affects only the speed.
     fn look_ahead(&mut self, _alloc: Global, _rows: &[RowLine])
@@ -52,8 +57,8 @@ pub(crate) fn take_rows<T: RowTaker>(
     nodes: &i64,
     rows: &[RowLine],
 ) -> Taken
-    ensures taken { TakesRows T.taker T.line nodes.now taker.old taker.new rows.now result }
-    ensures unchanged { result.rows ≡ 0 → Keeps T.taker taker.old taker.new }
+    ensures taken { TakesRows T.kind T.line nodes.now (T.holds taker.old) (T.holds taker.new) rows.now result }
+    ensures unchanged { result.rows ≡ 0 → Keeps (T.holds taker.old) (T.holds taker.new) }
     ensures within { MatchOption result.fault (result.rows ≤ length rows.now) (λ f. result.rows < length rows.now) }
 {
     taker.look_ahead(alloc, rows);
@@ -72,9 +77,11 @@ pub(crate) fn take_rows<T: RowTaker>(
 }
 
 impl RowTaker for Vec<i64> {
-    ghost taker = { ids_body };
+    ghost kind = { Ss };
 
     ghost line = { counted_line Ss };
+
+    ghost holds = { ListHolds source_in };
 
     fn take(&mut self, _alloc: Global, _nodes: &i64, row: &Row) -> Result<(), ItemFault> {
         push_source(self, &row.first)
@@ -82,9 +89,11 @@ impl RowTaker for Vec<i64> {
 }
 
 impl RowTaker for Vec<(i64, i64)> {
-    ghost taker = { pairs_body };
+    ghost kind = { P2p };
 
     ghost line = { counted_line P2p };
+
+    ghost holds = { ListHolds query_in };
 
     fn take(&mut self, _alloc: Global, _nodes: &i64, row: &Row) -> Result<(), ItemFault> {
         push_query(self, (row.first, row.second))
@@ -92,9 +101,11 @@ impl RowTaker for Vec<(i64, i64)> {
 }
 
 impl RowTaker for NodeMap<(i64, i64)> {
-    ghost taker = { points_body };
+    ghost kind = { Co };
 
     ghost line = { counted_line Co };
+
+    ghost holds = { MapHolds point_in has_point };
 
     fn take(&mut self, _alloc: Global, _nodes: &i64, row: &Row) -> Result<(), ItemFault> {
         insert_point(self, &row.first, (row.second, row.third))
@@ -115,9 +126,11 @@ pub(crate) trait RowBundle: Bundle {
 }
 
 impl<B: RowBundle> RowTaker for TableSoFar<B> {
-    ghost taker = { table_body B.text B.arc_in B.bundle };
+    ghost kind = { B.text };
 
     ghost line = { counted_line B.text };
+
+    ghost holds = { TableHolds B.bundle.kind B.arc_in (meant B.bundle) };
 
     #[inline(always)]
     fn take(&mut self, alloc: Global, nodes: &i64, row: &Row) -> Result<(), ItemFault> {
@@ -216,9 +229,9 @@ impl Body<TableSoFar<Curve>, TableSoFar<Total>, TableSoFar<Least>> {
 
     // Takes rows one after another, up to the first that has a fault or for which an allocation fails.
     pub(crate) fn take_rows(&mut self, alloc: Global, nodes: &i64, rows: &[RowLine]) -> Taken
-        ensures taken { BodyTakes nodes.now self.old self.new rows.now result }
-        ensures unchanged { result.rows ≡ 0
-            → (items : List Line) → BodyHolds self.old items → BodyHolds self.new items }
+        ensures taken { TakesRows (body_kind self.old) (counted_line (body_kind self.old)) nodes.now
+            (BodyHolds self.old) (BodyHolds self.new) rows.now result }
+        ensures unchanged { result.rows ≡ 0 → Keeps (BodyHolds self.old) (BodyHolds self.new) }
         ensures within { MatchOption result.fault (result.rows ≤ length rows.now)
             (λ f. result.rows < length rows.now) }
         ensures kept { body_kind self.new ≡ body_kind self.old }

@@ -1,9 +1,12 @@
 // Takes `n` lines as they arrive.
-ghost use Rattle.std.specs.Prelude.{◌≡◌, List, [], OnErr, Err};
-ghost use Rattle.dn_line.specs.declared.line.Line.{Line};
+ghost use Rattle.std.specs.Prelude.{◌≡◌, [], OnErr, Err, false};
 ghost use Rattle.dn_line.specs.declared.line.Line.TheVariants.{Supply, Terminal};
+ghost use Rattle.dn_line.specs.declared.kind.Kind.{Kind};
+ghost use Rattle.dn_line.specs.declared.kind.Kind.TheVariants.{Min};
+ghost use Rattle.dn_instance.specs.TextFaults.{is_companion};
+ghost use Rattle.dn_instance.specs.State.Bodies.{Keeps, TakesRow};
 ghost use Rattle.dn_instance.specs.State.RowRuns.{supply_line};
-ghost use Rattle.dn_instance.specs.State.TextParts.{MarksHold, TakesMark, marks_of, terminals_of};
+ghost use Rattle.dn_instance.specs.State.TextParts.{MarksHold, terminals_of};
 
 use crate::body::RowTaker;
 use crate::items::{insert_supply, set_terminal};
@@ -35,8 +38,9 @@ impl Marks {
 
     // Takes a `min` node line, or returns its fault.
     pub(crate) fn take_supply(&mut self, nodes: &i64, id: &i64, flow: &i64) -> Result<(), ItemFault>
-        ensures taken { TakesMark nodes.now self.old self.new (Supply id.now flow.now) result }
-        ensures unchanged { OnErr result ((items : List Line) → MarksHold self.old items → MarksHold self.new items) }
+        ensures taken { (kind : Kind) → is_companion kind ≡ false
+            → TakesRow kind nodes.now (MarksHold self.old) (MarksHold self.new) (Supply id.now flow.now) result }
+        ensures unchanged { OnErr result (Keeps (MarksHold self.old) (MarksHold self.new)) }
     {
         insert_supply(&mut self.supplies, nodes, id, flow)
     }
@@ -48,8 +52,9 @@ impl Marks {
         id: &i64,
         letter: Letter,
     ) -> Result<(), ItemFault>
-        ensures taken { TakesMark nodes.now self.old self.new (Terminal id.now letter) result }
-        ensures unchanged { OnErr result ((items : List Line) → MarksHold self.old items → MarksHold self.new items) }
+        ensures taken { (kind : Kind) → is_companion kind ≡ false
+            → TakesRow kind nodes.now (MarksHold self.old) (MarksHold self.new) (Terminal id.now letter) result }
+        ensures unchanged { OnErr result (Keeps (MarksHold self.old) (MarksHold self.new)) }
         ensures memory { result ≡ Err ItemFault.Memory → ⊥ }
     {
         match letter {
@@ -78,9 +83,11 @@ impl Marks {
 
 // The marks take the rows of `min` node lines.
 impl RowTaker for Marks {
-    ghost taker = { marks_of };
+    ghost kind = { Min };
 
     ghost line = { supply_line };
+
+    ghost holds = { MarksHold };
 
     fn take(&mut self, _alloc: Global, nodes: &i64, row: &Row) -> Result<(), ItemFault> {
         self.take_supply(nodes, &row.first, &row.second)

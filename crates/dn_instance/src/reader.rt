@@ -1,9 +1,8 @@
 // Reads a text in any pieces.
-ghost use Rattle.std.specs.Prelude.{◌≡◌, ◌≤◌, ℕ, ◌+◌, List, [], ◌++◌, length, take, drop, Some, None, Err, ◌<◌, IfOk, MatchResult};
-ghost use Rattle.dn_line.specs.State.LineStates.{LineSoFar, LineReaderAt, used_of};
-ghost use Rattle.dn_line.specs.Pieces.{lines};
+ghost use Rattle.std.specs.Prelude.{◌≡◌, ◌≤◌, ℕ, ◌+◌, List, [], ◌++◌, length, take, drop, Some, None, Err, ◌<◌, IfOk};
+ghost use Rattle.dn_line.specs.State.LineStates.{used_of};
 ghost use Rattle.dn_instance.specs.State.ReaderResults.{Fed, Outcome, refusal_of, fed_answer};
-ghost use Rattle.dn_instance.specs.State.ReaderStates.{Advances, CountsBefore, CountsRead, DeclaresBefore, DeclaresRead, KeepsRefusal, ReaderAt, Steps, ClosesLine, WantsAtEnd, WantsInPiece, WhileReading, first_line};
+ghost use Rattle.dn_instance.specs.State.ReaderStates.{Advances, CountsBefore, CountsRead, DeclaresBefore, DeclaresRead, KeepsRefusal, ReaderAt, ClosesLine, TakesAll, WantsAtEnd, WantsInPiece, WhileReading, first_line};
 ghost use Rattle.dn_instance.specs.State.LineRefusals.{refused_at};
 ghost use Rattle.dn_instance.specs.State.TextsSoFar.{AfterLines, TextAt};
 
@@ -49,6 +48,16 @@ impl Reader {
         }
     }
 
+    // Takes a last line without an LF, if there is one, or keeps and returns its refusal.
+    fn close_last(&mut self) -> Result<(), Refusal>
+        ensures { WhileReading self.old (λ t. TakesAll self.new t result) }
+    {
+        if self.line.pending() {
+            return self.close();
+        }
+        Ok(())
+    }
+
     // Keeps and returns the refusal of the next line, which has this fault.
     fn refuse(&mut self, fault: ItemFault) -> Refusal
         ensures said { (ls : List (List ℕ)) → TextAt self.old.text ls
@@ -87,7 +96,8 @@ impl Reader {
         requires { 0 < length piece.now }
         ensures some { IfOk result (λ n. 0 < n) }
         ensures bound { IfOk result (λ n. n ≤ length piece.now) }
-        ensures advances { WhileReading self.old (λ t. Steps self.new t piece.now result) }
+        ensures advances { WhileReading self.old (λ t. (n : ℕ) × IfOk result (λ used. used ≡ n)
+            × Advances self.new t (t ++ take n piece.now) result) }
         ensures refusal { KeepsRefusal self.old self.new result }
     {
         if !self.line.pending() {
@@ -170,13 +180,11 @@ impl Reader {
             drop(self);
             return Err(refusal);
         }
-        if self.line.pending() {
-            match self.close() {
-                Ok(()) => {}
-                Err(refusal) => {
-                    drop(self);
-                    return Err(refusal);
-                }
+        match self.close_last() {
+            Ok(()) => {}
+            Err(refusal) => {
+                drop(self);
+                return Err(refusal);
             }
         }
         match self.text.end() {

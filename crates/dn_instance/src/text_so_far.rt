@@ -1,27 +1,19 @@
 // The complete lines of a text: how many they are, and what their items make.
-ghost use Rattle.std.specs.Prelude.{◌≡◌, ◌<◌, ◌≤◌, ◌≤ℤ◌, ℕ, ◌+◌, ◌-◌, ◌^◌, pos, length, take, List, ◌∷◌, ◌++◌, [], OnOk, OnErr, Err, Some, MatchOption, get_or, int_lt, None, true, false};
+ghost use Rattle.std.specs.Prelude.{◌≡◌, ◌<◌, ◌≤◌, ◌≤ℤ◌, ℕ, ◌+◌, ◌-◌, ◌^◌, pos, length, take, List, ◌∷◌, ◌++◌, [], OnOk, OnErr, Err, Some, MatchOption, get_or, None, true, false};
 ghost use Rattle.dn_line.specs.declared.kind.Kind.{Kind};
 ghost use Rattle.dn_line.specs.declared.line.Line.{Line};
 ghost use Rattle.dn_line.specs.declared.row_block.RowLine.{RowLine};
-ghost use Rattle.dn_line.specs.declared.word.Word.{Word};
-ghost use Rattle.dn_line.specs.LineTable.{kind_named};
 ghost use Rattle.dn_line.specs.State.RowBlocks.{last_left};
-ghost use Rattle.dn_line.specs.Words.{first, said_words};
-ghost use Rattle.dn_line.specs.Faults.{first_fault, head_tests};
-ghost use Rattle.dn_line.specs.State.LineReads.{head_of};
-ghost use Rattle.dn_line.specs.State.LineStates.{LineSoFar, LineReaderAt};
 ghost use Rattle.dn_line.specs.State.RowItems.{problem_item};
-ghost use Rattle.dn_instance.specs.Items.{problem_in};
-ghost use Rattle.dn_instance.specs.TextFaults.{order_tests, line_fault};
-ghost use Rattle.dn_instance.specs.State.Bodies.{Awaits, TookRows};
+ghost use Rattle.dn_instance.specs.State.Bodies.{Keeps, TakesRows};
 ghost use Rattle.dn_instance.specs.State.Ends.{EndsWith};
 ghost use Rattle.dn_instance.specs.EntryCount.{entries_so_far};
 ghost use Rattle.dn_instance.specs.State.Declarations.{declared_in};
 ghost use Rattle.dn_instance.specs.Readers.{SpellsNeed};
 ghost use Rattle.dn_instance.specs.State.ItemFaults.{AnswersFault};
 ghost use Rattle.dn_instance.specs.Texts.{items_of, with_next};
-ghost use Rattle.dn_instance.specs.State.RowRuns.{IsRowHead, row_items, row_line, run_head};
-ghost use Rattle.dn_instance.specs.State.TextsSoFar.{AfterLines, AtLine, Declares, HasRead, IsOfRun, IsOrderFault, NeedsAfter, NextRead, ReadsRows, TakesItem, TakesRowOf, TakesRun, TextAt, fault_after, fault_next, text_kind};
+ghost use Rattle.dn_instance.specs.State.RowRuns.{IsRowHead, row_line, run_head};
+ghost use Rattle.dn_instance.specs.State.TextsSoFar.{AfterLines, AtLine, Declares, HasRead, IsOfRun, IsOrderFault, NeedsAfter, NextRead, ReadsRows, RoomFor, TakesItem, TakesRowOf, TextAt, fault_after, fault_next, text_kind};
 
 use crate::body::{Body, Taken, take_rows};
 use crate::declared::Declared;
@@ -156,8 +148,9 @@ impl TextSoFar {
     // Takes rows of lines with this head one after another, up to the first that has a fault or for which an allocation
     // fails.
     fn take_run(&mut self, alloc: Global, head: Head, rows: &[RowLine]) -> Taken
-        ensures taken { TakesRun self.old self.new head rows.now result }
-        ensures unchanged { result.rows ≡ 0 → (before : List Line) → HasRead self.old before → HasRead self.new before }
+        ensures taken { (kind : Kind) → IsRowHead kind head → RoomFor head rows.now self.old → TakesRows kind
+            (row_line kind head) self.old.nodes (HasRead self.old) (HasRead self.new) rows.now result }
+        ensures unchanged { result.rows ≡ 0 → Keeps (HasRead self.old) (HasRead self.new) }
         ensures within { MatchOption result.fault (result.rows ≤ length rows.now)
             (λ f. result.rows < length rows.now) }
         ensures kept { self.new.closed ≡ self.old.closed }

@@ -7,7 +7,7 @@ use Rattle.dn_instance.specs.Readers.{ended}
 use Rattle.dn_instance.specs.SourceReads.{CleanSoFar, GaveLast, PulledWhileClean, RanOut, after_pulls}
 use Rattle.dn_instance.specs.Texts.{IsClean, IsFirstFault, Reads}
 use Rattle.dn_instance.specs.declared.refusal.Refusal.{Refusal}
-use Rattle.dn_instance.specs.declared.refusal.Refusal.TheVariants.{Text, Memory, Read, Endless, Write, CountTooLarge}
+use Rattle.dn_instance.specs.declared.refusal.Refusal.TheVariants.{Text, Memory, Read, Endless, CountTooLarge}
 use Rattle.dn_canon.specs.CanonTexts.{IsTooLarge}
 use Rattle.dn_files.specs.declared.files.FilesFault.{FilesFault}
 use Rattle.dn_files.specs.declared.files.FilesFault.TheVariants as Files
@@ -63,8 +63,7 @@ IsRefusedText text b (Text place code) = IsFirstFault b place code
 IsRefusedText text b Memory = IsOutOfMemory text b
 IsRefusedText text b Read = IsUnread text b
 IsRefusedText text b Endless = IsEndless text b
-IsRefusedText text b Write = ⊥
-IsRefusedText text b CountTooLarge = ⊥
+IsRefusedText text b _ = ⊥
 
 -- this is a reason to refuse the text b when its canonical text is asked for: a reason of reading, or that the
 -- canonical text of what b reads as is too large

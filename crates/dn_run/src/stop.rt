@@ -66,11 +66,7 @@ pub(crate) fn unwritten(name: &str, refusal: Refusal) -> Stop<'_>
 {
     match refusal {
         Refusal::Write => Stop::Cut,
-        Refusal::Text { .. }
-        | Refusal::Memory
-        | Refusal::Read
-        | Refusal::Endless
-        | Refusal::CountTooLarge => Stop::Refused { name, refusal },
+        _ => Stop::Refused { name, refusal },
     }
 }
 

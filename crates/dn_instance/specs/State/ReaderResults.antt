@@ -3,7 +3,7 @@ use Rattle.std.specs.Prelude.{◌≡◌, ℕ, ◌+◌, ◌<◌, List, length, ta
 use Rattle.dn_line.specs.Pieces.{lines}
 use Rattle.dn_instance.specs.declared.refusal.Place.TheVariants as Places
 use Rattle.dn_instance.specs.declared.refusal.Refusal.{Refusal}
-use Rattle.dn_instance.specs.declared.refusal.Refusal.TheVariants.{Text, Memory, Read, Endless, Write, CountTooLarge}
+use Rattle.dn_instance.specs.declared.refusal.Refusal.TheVariants.{Text, Memory}
 use Rattle.dn_instance.specs.declared.reader.Reader.{Reader}
 use Rattle.dn_instance.specs.EntryCount.{entries_so_far}
 use Rattle.dn_instance.specs.Instances.{Instance}
@@ -15,12 +15,8 @@ use Rattle.dn_instance.specs.Readers.{WantsMemory, ended}
 -- least `before` lines, where neither it nor an earlier line has a fault
 abbrev pub IsRefused : ℕ → List (List ℕ) → Refusal → Type 0
 IsRefused before ls (Text (Places.Line number) code) = IsFirstFaultAt ls number code
-IsRefused before ls (Text Places.End code) = ⊥
 IsRefused before ls Memory = WantsMemory before ls
-IsRefused before ls Read = ⊥
-IsRefused before ls Endless = ⊥
-IsRefused before ls Write = ⊥
-IsRefused before ls CountTooLarge = ⊥
+IsRefused before ls _ = ⊥
 
 -- what feeding a text up to here returns: success if no complete line has a fault, the first fault among the complete
 -- lines, or `Memory` at a complete line where neither it nor an earlier line has a fault
@@ -34,10 +30,7 @@ abbrev pub Outcome : List ℕ → Result Parsed Refusal → Type 0
 Outcome t (Ok held) = (I : Instance) × Reads t I × IsHeld held I
 Outcome t (Err (Text place code)) = IsFirstFault t place code
 Outcome t (Err Memory) = WantsMemory 0 (lines t)
-Outcome t (Err Read) = ⊥
-Outcome t (Err Endless) = ⊥
-Outcome t (Err Write) = ⊥
-Outcome t (Err CountTooLarge) = ⊥
+Outcome t (Err _) = ⊥
 
 -- `Is` holds of every instance that the text reads as and the parsed instance represents
 abbrev pub OfText : List ℕ → Parsed → (Instance → Type 0) → Type 0

@@ -56,13 +56,16 @@ abbrev pub TakesAll : Reader → List ℕ → Result (Unit {0}) Refusal → Type
 TakesAll r t (Ok x) = TextAt r.text (lines t)
 TakesAll r t (Err e) = IsRefused (length (ended t)) (lines t) e
 
--- after t, the reader has read the text up to u, or it keeps the refusal of a complete line of u and has taken at least
--- the complete lines of t; memory can run out only after the complete lines of t
+-- the reader keeps the refusal of one of these lines and has taken at least the first `before` lines; memory can run
+-- out only after these
+abbrev pub StopsAfter : Reader → ℕ → List (List ℕ) → Refusal → Type 0
+StopsAfter r before ls e =
+    (r.refusal ≡ Some e) × IsRefused before ls e × StopsIn r ls e × (before ≤ lines_taken r)
+
+-- after t, the reader has read the text up to u, or it keeps the refusal of a complete line of u
 abbrev pub Advances : Reader → List ℕ → List ℕ → Result ℕ Refusal → Type 0
 Advances r t u (Ok n) = IsReading r u
-Advances r t u (Err e) =
-    (r.refusal ≡ Some e) × IsRefused (length (ended t)) (ended u) e × StopsIn r (ended u) e
-    × (length (ended t) ≤ lines_taken r)
+Advances r t u (Err e) = StopsAfter r (length (ended t)) (ended u) e
 
 -- the bytes of a piece up to and including its first LF, or all if it has no LF
 abbrev pub first_line : List ℕ → List ℕ
@@ -76,12 +79,6 @@ WhileReading r P = (t : List ℕ) → IsReading r t → P t
 abbrev pub KeepsRefusal : {T : Type 0} → Reader → Reader → Result T Refusal → Type 0
 KeepsRefusal old new result =
     MatchResult result (λ x. refusal_of new ≡ refusal_of old) (λ e. refusal_of new ≡ Some e)
-
--- after t, the reader has read the first n bytes of the piece, or it keeps the refusal of a line that is complete in
--- the first bytes of the piece
-abbrev pub Steps : Reader → List ℕ → List ℕ → Result ℕ Refusal → Type 0
-Steps r t piece (Ok n) = IsReading r (t ++ take n piece)
-Steps r t piece (Err e) = (n : ℕ) × Advances r t (t ++ take n piece) (Err e)
 
 -- if memory runs out in a piece, it runs out at a line that was not complete before the piece, and the reader has taken
 -- all lines that were complete before it

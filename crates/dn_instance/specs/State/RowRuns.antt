@@ -80,8 +80,7 @@ abbrev pub AreInTime : Head → List Line → List Line → Type 0
 AreInTime head before [] = Unit {0}
 AreInTime head before (i ∷ items) = IsInTime head before × AreInTime head (before ++ i ∷ []) items
 
--- no item of `items` has a fault after the items before it, and `held` holds the earlier items and these
-pub record Joins {H : Type 0} (Holds : H → List Line → Type 0) (before : List Line) (held : H) (items : List Line)
-    : Type 0 where
+-- no item of `items` has a fault after the items before it, and `Now` holds of the earlier items and these
+pub record Joins (Now : List Line → Type 0) (before items : List Line) : Type 0 where
   pub faultless : AreFaultless before items
-  pub holds : Holds held (before ++ items)
+  pub holds : Now (before ++ items)

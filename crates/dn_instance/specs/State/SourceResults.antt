@@ -7,7 +7,7 @@ use Rattle.dn_line.specs.Sources.{SourceFacts}
 use Rattle.dn_instance.specs.declared.reader.Reader.{Reader}
 use Rattle.dn_instance.specs.declared.refusal.Place.TheVariants as Places
 use Rattle.dn_instance.specs.declared.refusal.Refusal.{Refusal}
-use Rattle.dn_instance.specs.declared.refusal.Refusal.TheVariants.{Text, Memory, Read, Endless, Write, CountTooLarge}
+use Rattle.dn_instance.specs.declared.refusal.Refusal.TheVariants.{Text, Memory, Read, Endless}
 use Rattle.dn_instance.specs.Readers.{ended}
 use Rattle.dn_instance.specs.State.ReaderResults.{IsRefused, Outcome, refusal_of}
 use Rattle.dn_instance.specs.State.ReaderStates.{ReaderAt}
@@ -54,8 +54,7 @@ SourceOutcome t left (Err (Text place code)) = IsFirstFault t place code × Stop
 SourceOutcome t left (Err Memory) = StopsAt t left Memory
 SourceOutcome t left (Err Read) = CleanSoFar t left.gives
 SourceOutcome t left (Err Endless) = (c : CleanSoFar t left.gives) × (2 ^ 40 ≤ length c.given)
-SourceOutcome t left (Err Write) = ⊥
-SourceOutcome t left (Err CountTooLarge) = ⊥
+SourceOutcome t left (Err _) = ⊥
 
 -- what reading a source returns, if the bytes of the source are known
 abbrev pub ReadsSource : {S : Type 0} → SourceFacts S → S → S → Result Parsed Refusal → Type 0

@@ -1,8 +1,7 @@
 -- What the parts of a text so far hold: its `n` lines, and its counted lines.
-use Rattle.std.specs.Prelude.{◌≡◌, ℕ, ◌<◌, ◌^◌, ℤ, pos, List, [], ◌∷◌, ◌++◌, Bool, false, not, Option, Some, None, Result, OnOk}
+use Rattle.std.specs.Prelude.{◌≡◌, ℕ, ◌<◌, ◌^◌, ℤ, pos, List, Bool, false, not, Option, Some, None}
 use Rattle.std.specs.List.Sorted.{IsStrictlySortedBy}
 use Rattle.std.specs.Map.{keys_of, lookup}
-use Rattle.dn_line.specs.Faults.{first_fault}
 use Rattle.dn_line.specs.declared.kind.Kind.{Kind}
 use Rattle.dn_line.specs.declared.kind.Kind.TheVariants as Kinds
 use Rattle.dn_line.specs.declared.kind.Letter.TheVariants.{S, T}
@@ -14,28 +13,13 @@ use Rattle.dn_arc.specs.declared.arc.Form.TheVariants.{One}
 use Rattle.dn_bundle.specs.State.Listings.{least_arcs, total_arcs, curve_arcs}
 use Rattle.dn_bundle.specs.declared.least.Least.{Least}
 use Rattle.dn_bundle.specs.declared.total.Total.{Total}
-use Rattle.dn_instance.specs.Items.{Problem, problem_of, length_arc_in, cap_arc_in, cost_arc_in, supply_in, terminal_of}
-use Rattle.dn_instance.specs.TextFaults.{has_supply, is_companion, item_tests}
+use Rattle.dn_instance.specs.Items.{length_arc_in, cap_arc_in, cost_arc_in, point_in, query_in, source_in, supply_in, terminal_of}
+use Rattle.dn_instance.specs.TextFaults.{has_point, has_supply, is_companion}
 use Rattle.dn_instance.specs.EntryCount.{entries_as}
-use Rattle.dn_instance.specs.State.RowRuns.{counted_line}
-use Rattle.dn_line.specs.declared.row_block.RowLine.{RowLine}
-use Rattle.dn_instance.specs.declared.body.Taken.{Taken}
-use Rattle.dn_instance.specs.State.Bodies.{TakerFacts, MapHolds, TakesRows, TableHolds, ids_body, pairs_body, points_body}
-use Rattle.dn_instance.specs.State.ItemFaults.{AnswersFault}
+use Rattle.dn_instance.specs.State.Bodies.{ListHolds, MapHolds, TableHolds}
 use Rattle.dn_instance.specs.declared.body.Body.{Body}
 use Rattle.dn_instance.specs.declared.body.Body.TheVariants as Bodies
 use Rattle.dn_instance.specs.declared.marks.Marks.{Marks}
-use Rattle.dn_instance.specs.declared.refusal.ItemFault.{ItemFault}
-
--- the arcs of a `min`, a `max` and an `sp` text
-abbrev pub min_body : TakerFacts (List ((ℤ × ℤ) × CurveNumbers))
-min_body = record { kind = Kinds.Min; Holds = TableHolds costs cost_arc_in (curve_arcs One) }
-
-abbrev pub max_body : TakerFacts (List ((ℤ × ℤ) × Total))
-max_body = record { kind = Kinds.Max; Holds = TableHolds capacities cap_arc_in total_arcs }
-
-abbrev pub sp_body : TakerFacts (List ((ℤ × ℤ) × Least))
-sp_body = record { kind = Kinds.Sp; Holds = TableHolds lengths length_arc_in least_arcs }
 
 -- what the counted lines of a text make; bundles are in any order while lines arrive, and sorted by pair at the end
 abbrev pub AnyBody : Type 0
@@ -52,27 +36,18 @@ body_kind (Bodies.Co points) = Kinds.Co
 
 -- the body holds what the counted ones of these items make
 abbrev pub BodyHolds : AnyBody → List Line → Type 0
-BodyHolds (Bodies.Min table) items = min_body.Holds table items
-BodyHolds (Bodies.Max table) items = max_body.Holds table items
-BodyHolds (Bodies.Sp table) items = sp_body.Holds table items
-BodyHolds (Bodies.Ss ids) items = ids_body.Holds ids items
-BodyHolds (Bodies.P2p pairs) items = pairs_body.Holds pairs items
-BodyHolds (Bodies.Co points) items = points_body.Holds points items
+BodyHolds (Bodies.Min table) items = TableHolds costs cost_arc_in (curve_arcs One) table items
+BodyHolds (Bodies.Max table) items = TableHolds capacities cap_arc_in total_arcs table items
+BodyHolds (Bodies.Sp table) items = TableHolds lengths length_arc_in least_arcs table items
+BodyHolds (Bodies.Ss ids) items = ListHolds source_in ids items
+BodyHolds (Bodies.P2p pairs) items = ListHolds query_in pairs items
+BodyHolds (Bodies.Co points) items = MapHolds point_in has_point points items
 
 -- n is how many entries the items of the body make, if that is below 2^64
 abbrev pub BodyCounts : AnyBody → ℕ → Type 0
 BodyCounts b n =
     (items : List Line) → BodyHolds b items → entries_as (body_kind b) items < 2 ^ 64
     → n ≡ entries_as (body_kind b) items
-
--- the bodies of texts of this kind
-abbrev pub any_body : Kind → TakerFacts AnyBody
-any_body kind = record { kind = kind; Holds = λ b items. (body_kind b ≡ kind) × BodyHolds b items }
-
--- the body takes rows of counted lines after any items that it holds
-abbrev pub BodyTakes : ℤ → AnyBody → AnyBody → List RowLine → Taken → Type 0
-BodyTakes nodes old new rows taken =
-    (kind : Kind) → TakesRows (any_body kind) (counted_line kind) nodes old new rows taken
 
 -- the table is sorted by ascending pair, and has the bundles of the other table
 pub record SortsTable {B : Type 0} (old new : List ((ℤ × ℤ) × B)) : Type 0 where
@@ -100,19 +75,6 @@ pub record MarksHold (marks : Marks) (items : List Line) : Type 0 where
   pub supplies : MapHolds supply_in has_supply marks.supplies items
   pub source_is : marks.source ≡ terminal_of S items
   pub sink_is : marks.sink ≡ terminal_of T items
-
--- the marks of a `min` text
-abbrev pub marks_of : TakerFacts Marks
-marks_of = record { kind = Kinds.Min; Holds = MarksHold }
-
--- the result says the first fault of an `n` line after any items of a graph problem with these nodes, and the new marks
--- hold the line if it has none
-abbrev pub TakesMark : ℤ → Marks → Marks → Line → Result (Unit {0}) ItemFault → Type 0
-TakesMark nodes old new i result =
-    (before : List Line) (p : Problem) → problem_of before ≡ Some p → is_companion p.kind ≡ false → p.nodes ≡ nodes
-    → MarksHold old before
-    → (AnswersFault result (first_fault (item_tests before (Some i))))
-    × (OnOk result (MarksHold new (before ++ i ∷ [])))
 
 -- the kind is known, and texts of this kind have arcs
 abbrev pub is_graph : Option Kind → Bool

@@ -1,5 +1,5 @@
 -- What the complete lines so far make, and what the next line reads as after them.
-use Rattle.std.specs.Prelude.{◌≡◌, ℕ, ◌+◌, ◌-◌, ◌^◌, ◌<◌, pos, ◌<ℤ◌, ◌≤ℤ◌, ◌+ℤ◌, List, [], ◌∷◌, ◌++◌, length, take, drop, cond, true, flat_map, Option, Some, None, Result, Ok, Err, IsSome, OnOk, int_lt}
+use Rattle.std.specs.Prelude.{◌≡◌, ℕ, ◌+◌, ◌-◌, ◌^◌, ◌<◌, pos, ◌<ℤ◌, ◌≤ℤ◌, ◌+ℤ◌, List, [], ◌∷◌, ◌++◌, length, take, drop, cond, true, flat_map, Option, Some, None, Result, Ok, Err, IsSome, int_lt}
 use Rattle.std.specs.List.{list_all, list_any, AllByRecursion}
 use Rattle.std.specs.Option.{option_map}
 use Rattle.dn_line.specs.declared.kind.Kind.{Kind}
@@ -26,12 +26,11 @@ use Rattle.dn_instance.specs.Readers.{SpellsNeed}
 use Rattle.dn_instance.specs.TextFaults.{is_arc, line_fault, line_tests, order_tests}
 use Rattle.dn_instance.specs.Texts.{items_of, IsClean}
 use Rattle.dn_instance.specs.State.TextParts.{AnyBody, BodyHolds, MarksHold, body_kind, is_graph}
-use Rattle.dn_instance.specs.State.Bodies.{AnswersItem, Awaits, TakerFacts, TookRows}
+use Rattle.dn_instance.specs.State.Bodies.{TookRow}
 use Rattle.dn_instance.specs.State.ItemFaults.{AnswersFault}
-use Rattle.dn_instance.specs.State.RowRuns.{HasRoomFor, HasSigns, IsRowHead, row_items, row_line}
+use Rattle.dn_instance.specs.State.RowRuns.{HasRoomFor, HasSigns}
 use Rattle.dn_instance.specs.declared.refusal.ItemFault.{ItemFault}
 use Rattle.dn_instance.specs.declared.refusal.ItemFault.TheVariants.{Memory}
-use Rattle.dn_instance.specs.declared.body.Taken.{Taken}
 use Rattle.dn_instance.specs.declared.text_so_far.RowsTaken.{RowsTaken}
 use Rattle.dn_instance.specs.declared.text_so_far.TextSoFar.{TextSoFar}
 
@@ -57,10 +56,6 @@ pub record HasRead (t : TextSoFar) (items : List Line) : Type 0 where
   pub arcs_are : is_graph (text_kind t) ≡ true → list_any is_arc items ≡ int_lt t.due t.count
   pub marks_hold : MarksHold t.marks items
   pub body_holds : HoldsBody t.body items
-
--- the texts so far of this kind
-abbrev pub text_taker : Kind → TakerFacts TextSoFar
-text_taker kind = record { kind = kind; Holds = λ t items. (text_kind t ≡ Some kind) × HasRead t items }
 
 -- what a line reads as after these items, where the faults of its item are not checked
 abbrev pub next_read : List Line → List Word → Result Line Code
@@ -102,13 +97,11 @@ IsOrderFault t head fault =
     (before : List Line) (ws : List Word) → HasRead t before → first_fault (head_tests (text_kind t) ws) ≡ None
     → head ≡ head_of (first ws) (kind_named ws) → fault ≡ first_fault (order_tests before ws)
 
--- the result answers the item of this row after the items that the old text has read, and the new text has read it too
--- if it has no fault
+-- the row of a line with this head is taken after any items that the old text has read and that its item may follow
 abbrev pub TakesRowOf : TextSoFar → TextSoFar → Head → Row → Result (Unit {0}) ItemFault → Type 0
 TakesRowOf old new head row result =
     let i = item_of_row head (text_kind old) row in
-    (before : List Line) → AwaitsRow old before i
-    → AnswersItem before i result × OnOk result (HasRead new (before ++ i ∷ []))
+    (before : List Line) → AwaitsRow old before i → TookRow before (HasRead new) i result
 
 -- the line of this head is no problem line and no `max` node line
 pub record IsOfRun (t : TextSoFar) (head : Head) : Type 0 where
@@ -118,14 +111,6 @@ pub record IsOfRun (t : TextSoFar) (head : Head) : Type 0 where
 -- at most as many of these rows as are still to come, if their lines are counted
 abbrev pub RoomFor : Head → List RowLine → TextSoFar → Type 0
 RoomFor head rows t = (head ≡ Heads.Node → ⊥) → pos (length rows) ≤ℤ t.due
-
--- the rows that were taken are those before the first that has a fault after the items of the old text, or for which
--- memory ran out, and the new text has read their items
-abbrev pub TakesRun : TextSoFar → TextSoFar → Head → List RowLine → Taken → Type 0
-TakesRun old new head rows taken =
-    (kind : Kind) (before : List Line) → IsRowHead kind head → RoomFor head rows old
-    → Awaits (text_taker kind) old.nodes old before (row_items (row_line kind head) rows)
-    → TookRows (text_taker kind) (row_line kind head) before new rows taken
 
 -- the next line reads as the item of a row of a line with this head, or it has this fault; a skipped line has the head
 -- `Skip`

@@ -8,7 +8,8 @@ abbrev pub invariant-loop-i : goal.invariant-loop-i
 invariant-loop-i g l =
     record {
       joins : (before : List Line)
-          → Awaits g.T.RowTaker.taker l.nodes l.fn.taker before (row_items g.T.RowTaker.line l.rows)
-          → Joins (g.T.RowTaker.taker).Holds before l.taker (row_items g.T.RowTaker.line (take l.i l.rows));
+          → Awaits g.T.RowTaker.kind l.nodes before (row_items g.T.RowTaker.line l.rows)
+          → g.T.RowTaker.holds l.fn.taker before
+          → Joins (g.T.RowTaker.holds l.taker) before (row_items g.T.RowTaker.line (take l.i l.rows));
       fresh : l.i ≡ 0 → l.taker ≡ l.fn.taker;
     }

@@ -4,36 +4,29 @@ use Rattle.dn_arc.specs.Kinds.{capacities, costs, lengths}
 use Rattle.dn_arc.specs.declared.arc.Form.TheVariants.{One}
 use Rattle.dn_bundle.specs.State.Listings.{curve_arcs, least_arcs, total_arcs}
 use Rattle.dn_instance.specs.Items.{cap_arc_in, cost_arc_in, length_arc_in}
-use Rattle.dn_instance.proofs.BodyLaws.{min_part, max_part, sp_part, ids_part, pairs_part, points_part, counted_by, table_counted}
+use Rattle.dn_instance.proofs.BodyLaws.{table_counted}
 use Rattle.dn_instance.proofs.body.Body+TableSoFar+Curve+TableSoFar+Total+TableSoFar+Least.entries.Goals as goal
 
 pub returns-in-Min : goal.returns-in-Min
 returns-in-Min c =
-    counted_by min_part _ _
-    (table_counted Kinds.Min costs cost_arc_in (curve_arcs One) _ _ (λ items. refl) c.entries.ensures) _ c.in-Min.is
+    rw c.in-Min.is
+    (table_counted Kinds.Min costs cost_arc_in (curve_arcs One) _ _ (λ items. refl) c.entries.ensures)
 
 pub returns-in-Max : goal.returns-in-Max
 returns-in-Max c =
-    counted_by max_part _ _
-    (table_counted Kinds.Max capacities cap_arc_in total_arcs _ _ (λ items. refl) c.entries-in-Max.ensures) _
-    c.in-Max.is
+    rw c.in-Max.is
+    (table_counted Kinds.Max capacities cap_arc_in total_arcs _ _ (λ items. refl) c.entries-in-Max.ensures)
 
 pub returns-in-Sp : goal.returns-in-Sp
 returns-in-Sp c =
-    counted_by sp_part _ _
-    (table_counted Kinds.Sp lengths length_arc_in least_arcs _ _ (λ items. refl) c.entries-in-Sp.ensures) _ c.in-Sp.is
+    rw c.in-Sp.is
+    (table_counted Kinds.Sp lengths length_arc_in least_arcs _ _ (λ items. refl) c.entries-in-Sp.ensures)
 
 pub returns-in-Ss : goal.returns-in-Ss
-returns-in-Ss c =
-    counted_by ids_part c.in-Ss.ids _ (λ items h few. omega (arith, c.len.ensures, c.in-Ss.ids.ok, ap length h)) _
-    c.in-Ss.is
+returns-in-Ss c = rw c.in-Ss.is (λ items h few. omega (arith, c.len.ensures, c.in-Ss.ids.ok, ap length h))
 
 pub returns-in-P2p : goal.returns-in-P2p
-returns-in-P2p c =
-    counted_by pairs_part c.in-P2p.pairs _
-    (λ items h few. omega (arith, c.len-in-P2p.ensures, c.in-P2p.pairs.ok, ap length h)) _ c.in-P2p.is
+returns-in-P2p c = rw c.in-P2p.is (λ items h few. omega (arith, c.len-in-P2p.ensures, c.in-P2p.pairs.ok, ap length h))
 
 pub returns-in-Co : goal.returns-in-Co
-returns-in-Co c =
-    counted_by points_part c.in-Co.points _ (λ items h few. c.len-in-Co.ensures.value ∙ ap length h.entries_are) _
-    c.in-Co.is
+returns-in-Co c = rw c.in-Co.is (λ items h few. c.len-in-Co.ensures.value ∙ ap length h.entries_are)

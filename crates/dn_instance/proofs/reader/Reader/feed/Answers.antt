@@ -1,11 +1,11 @@
-use Rattle.std.proofs.Common.{◌≡◌, append-nil, [], Some, ℕ, ◌≤◌, List, ◌++◌, length, take, sym, ◌∙◌, arith, take_all}
+use Rattle.std.proofs.Common.{◌≡◌, ℕ, List, ◌++◌, length, take, ◌∙◌, arith, take_all}
 use Rattle.dn_instance.specs.Readers.{ended}
-use Rattle.dn_instance.specs.State.ReaderResults.{IsRefused, lines_taken}
-use Rattle.dn_instance.specs.State.ReaderStates.{StopsIn, IsReading}
+use Rattle.dn_instance.specs.State.ReaderResults.{IsRefused}
+use Rattle.dn_instance.specs.State.ReaderStates.{StopsAfter, IsReading}
 use Rattle.dn_instance.specs.declared.refusal.Refusal.{Refusal}
 use Rattle.dn_instance.specs.declared.refusal.Refusal.TheVariants.{Memory}
-use Rattle.dn_instance.proofs.PieceSteps.{ended_more, rest_of, rest_len, step_on}
-use Rattle.dn_instance.proofs.ReaderLaws.{still_refused, stops_on, refused_on, refused, refuses, more_from, more_count}
+use Rattle.dn_instance.proofs.PieceSteps.{ended_more, rest_len, step_on}
+use Rattle.dn_instance.proofs.ReaderLaws.{all_same, still_refused, refused_after, refused_on, refused, refuses, more_from, more_count}
 use Rattle.dn_instance.proofs.reader.Reader.feed.Goals as goal
 
 pub returns-in-Some-clause-stands : goal.returns-in-Some-clause-stands
@@ -20,27 +20,18 @@ returns-in-Some-clause-fed c t h =
 -- the refused line is a complete line of the text with the piece
 refused_within : (c : goal.In-Err) (t : List ℕ)
     (reads : IsReading c.loop-at.self (t ++ take c.loop-at.at c.args.piece.now))
-    → (let u = t ++ c.args.piece.now in (c.advance.new.self.refusal ≡ Some c.in-Err.refusal)
-    × IsRefused (length (ended t)) (ended u) c.in-Err.refusal
-    × StopsIn c.advance.new.self (ended u) c.in-Err.refusal × (length (ended t) ≤ lines_taken c.advance.new.self))
+    → StopsAfter c.advance.new.self (length (ended t)) (ended (t ++ c.args.piece.now)) c.in-Err.refusal
 refused_within c t reads =
     let p = c.args.piece.now in
     let i = c.loop-at.at in
     let u = t ++ take i p in
     let stopped = c.in-Err.ensures.advances u reads in
-    let n = stopped.0 in
-    let a = stopped.1 in
-    let e = c.in-Err.refusal in (
-      a.0,
-      refused_on (length (ended u)) (length (ended t)) (ended (u ++ take n (rest_of p i))) (ended (t ++ p)) e
-          (more_count (ended t) (ended u) (ended_more t (take i p))) (more_from t p i n) a.1,
-      stops_on c.advance.new.self (ended (u ++ take n (rest_of p i))) (ended (t ++ p)) e (more_from t p i n) a.2,
-      omega (arith, more_count (ended t) (ended u) (ended_more t (take i p)), a.3),
-    )
+    refused_after c.advance.new.self (length (ended u)) _ _ _ c.in-Err.refusal
+    (more_count (ended t) (ended u) (ended_more t (take i p))) (more_from t p i stopped.0) stopped.2
 
 refused_at_all : (before : ℕ) (ls : List (List ℕ)) (e : Refusal) → IsRefused before ls e → IsRefused 0 ls e
 refused_at_all before ls e r =
-    refused_on before 0 ls ls e (omega arith) (record { rest = []; whole = sym (append-nil ls) }) r
+    refused_on before 0 ls ls e (omega arith) (all_same ls) r
 
 pub returns-in-Err-clause-stands : goal.returns-in-Err-clause-stands
 returns-in-Err-clause-stands c t h =
@@ -63,8 +54,9 @@ pub loop-at-preserved : goal.loop-at-preserved
 loop-at-preserved c = record {
   within = omega (arith, c.in-Ok.ensures.bound, rest_len c.args.piece.now c.loop-at.at, c.loop-at-test.true);
   fine = c.in-Ok.ensures.refusal ∙ c.loop-at.invariant.fine;
-  reads = λ t h. rw (step_on t c.args.piece.now c.loop-at.at c.in-Ok.used) at
-      (c.in-Ok.ensures.advances (t ++ take c.loop-at.at c.args.piece.now) (c.loop-at.invariant.reads t h));
+  reads = λ t h.
+      let on = c.in-Ok.ensures.advances (t ++ take c.loop-at.at c.args.piece.now) (c.loop-at.invariant.reads t h) in
+      rw (on.1, ← step_on t c.args.piece.now c.loop-at.at on.0) on.2;
 }
 
 pub returns-clause-fed : goal.returns-clause-fed

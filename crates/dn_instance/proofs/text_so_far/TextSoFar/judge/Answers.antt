@@ -34,10 +34,10 @@ pub returns-in_default : goal.returns-in_default
 returns-in_default c = record {
   answer = λ items l at stands.
       let n = next c items l at stands in
-      rw n.fault (c.take.ensures.taken items (record { read = at; may = n.may })).0.fault;
+      rw n.fault (c.take.ensures.taken items (record { read = at; may = n.may })).answer.fault;
   read = λ items l at stands.
       let n = next c items l at stands in
-      rw n.adds (c.take.ensures.taken items (record { read = at; may = n.may })).1;
+      rw n.adds (c.take.ensures.taken items (record { read = at; may = n.may })).holds;
   unchanged = c.take.ensures.unchanged;
   kept = c.take.ensures.kept;
   item = λ items l at stands e.
@@ -45,7 +45,7 @@ returns-in_default c = record {
       record {
         item = _;
         spelled = n.adds;
-        needs = (c.take.ensures.taken items (record { read = at; may = n.may })).0.memory e;
+        needs = (c.take.ensures.taken items (record { read = at; may = n.may })).answer.memory e;
       };
 }
 

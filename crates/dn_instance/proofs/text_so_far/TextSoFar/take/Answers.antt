@@ -1,3 +1,5 @@
+use Rattle.std.proofs.Common.{refl}
+use Rattle.dn_line.specs.declared.kind.Kind.TheVariants.{Max}
 use Rattle.dn_instance.proofs.RowRunLaws.{terminal_read}
 use Rattle.dn_instance.proofs.text_so_far.TextSoFar.take.Goals as goal
 
@@ -5,7 +7,7 @@ pub returns-then-has_terminals-clause-taken : goal.returns-then-has_terminals-cl
 returns-then-has_terminals-clause-taken c =
     terminal_read c.args.self.now _ c.args.head c.args.row.now c.take_terminal.result c.in-Node.is
     (c.has_terminals.ensures.yes c.if-has_terminals.true)
-    (rw c.letter_named-letter.ensures at c.take_terminal.ensures.taken) c.take_terminal.ensures.memory
+    (rw c.letter_named-letter.ensures at (c.take_terminal.ensures.taken Max refl))
 
 pub returns-else-has_terminals-clause-taken : goal.returns-else-has_terminals-clause-taken
 returns-else-has_terminals-clause-taken c =

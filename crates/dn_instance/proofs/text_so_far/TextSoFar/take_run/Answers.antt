@@ -5,9 +5,9 @@ use Rattle.dn_instance.proofs.RowRunLaws.{body_run, marks_run, not_saturated, sa
 use Rattle.dn_instance.proofs.text_so_far.TextSoFar.take_run.Goals as goal
 
 pub returns-in-Node-clause-taken : goal.returns-in-Node-clause-taken
-returns-in-Node-clause-taken c kind before is room =
+returns-in-Node-clause-taken c kind is room =
     marks_run c.args.self.now c.take_rows.new.taker kind c.args.head c.args.rows.now c.take_rows.result c.in-Node.is is
-    c.take_rows.ensures.taken before
+    c.take_rows.ensures.taken
 
 -- the count of the lines still to come, if at least as many were still to come as rows were taken
 less : (c : goal.After-self-2-1) → pos c.take_rows-taken.result.rows ≤ℤ c.args.self.now.due
@@ -34,11 +34,11 @@ returns c =
     let took = c.take_rows-taken.ensures in
     let within : t.rows ≤ length rows = within_all t.fault t.rows (length rows) took.within in
     record {
-      taken = λ kind before is room a.
+      taken = λ kind is room.
           let most : pos t.rows ≤ℤ self.due = omega (arith, ints, room c.in_default.not-Node) in
           let due = less c most in
           body_run self c.in-Some.body c.take_rows-taken.new.self kind c.args.head rows t _ c.in-Some.is
-          c.in_default.not-Node is within (took.taken kind) took.kept due (omega (arith, ints)) before a;
+          c.in_default.not-Node is within took.taken took.kept due (omega (arith, ints));
       unchanged = λ none before at.
           let most : pos t.rows ≤ℤ self.due = omega (arith, ints, at.due_some) in
           same_read self c.in-Some.body c.take_rows-taken.new.self _ before c.in-Some.is took.kept
