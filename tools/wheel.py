@@ -5,9 +5,8 @@ and the shared library.
     tools/wheel.py WHEEL PROGRAM LIBRARY FOLDER PLATFORM..
 
 The new wheel, in FOLDER, has the same files with the same times, the program as a script, which pip installs beside the
-others, and the library in the package. Its tags are those of the platforms, such as manylinux1_x86_64. These may be of
-any C library, since the program needs none; where the library cannot be loaded, the package does without it. Equal
-inputs give equal bytes."""
+others, and the library in the package. Its tags are those of the platforms, such as manylinux2014_x86_64, by whose C
+library the shared library can be loaded; the program needs none. Equal inputs give equal bytes."""
 
 import base64
 import hashlib

@@ -27,7 +27,7 @@ SCRIPTS = {
 # The files that a release is made with, besides the installed ones.
 WITH = [".gitignore", "kit.txt", "install", "share/installed.txt", "c/runtime-aarch64.c", "c/dnorm.map"]
 WITH += ["tools/release", "tools/shipped", "tools/pages.py", "tools/wheel.py", "tools/kit.py", "tests/shared.py"]
-WITH += ["tools/link-program", "tools/source-sum", "tools/program", "tools/find-program.sh"]
+WITH += ["tools/link-program", "tools/hidden-object", "tools/source-sum", "tools/program", "tools/find-program.sh"]
 WITH += [f"tools/debian/{it}" for it in os.listdir(f"{ROOT}/tools/debian")]
 # The author of the commits and their time; and that time as tar prints it.
 WHO = {"NAME": "A B", "EMAIL": "a@example.org", "DATE": "2026-01-02T03:04:05+00:00"}
@@ -84,7 +84,7 @@ class Machine(NamedTuple):
 
 
 MACHINES = [
-    Machine("x86_64", "amd64", "Advanced Micro Devices X86-64", ["manylinux1_x86_64", "musllinux_1_1_x86_64"]),
+    Machine("x86_64", "amd64", "Advanced Micro Devices X86-64", ["manylinux2014_x86_64", "musllinux_1_1_x86_64"]),
     Machine("aarch64", "arm64", "AArch64", ["manylinux2014_aarch64", "musllinux_1_1_aarch64"]),
 ]
 

@@ -1,8 +1,8 @@
 """tools/release on the built program, and ./install: the archive's program in an empty root, its conformance suite, two
 releases of one commit in two folders, the packages' paths and fields, the links of all pages, programs that are built
 with the library of the archive, of ./install and of the packages, what is installed and uninstalled, also after a
-failure and without /proc, and when no release is made. All of this happens in scratch repositories, which have the
-files that a release is made of.
+failure, by busybox and without /proc, and when no release is made. All of this happens in scratch repositories, which
+have the files that a release is made of.
 
 Of what is made for aarch64, the paths, the fields and the processor of the files are tested, and nothing is proved or
 run: the scratch repositories have what tools/aarch64 has built, and scripts in the place of tools/aarch64 and
@@ -346,6 +346,9 @@ def test_python_binary(made: Made, port: Port) -> None:
     assert {it.date_time for it in infos} == {time.gmtime(TIME - 1)[:6]}, "its times"
     tags = re.findall("^Tag: (.*)$", found[f"{info}/WHEEL"].decode(), re.M)
     assert sorted(tags) == [f"py3-none-{it}" for it in port.machine.platforms], "its tags"
+    # manylinux2014 has the C library in version 2.17.
+    least = [int(it) for it in least_libc(f"{port.tree}/lib/libdnorm.so.2").split(".")]
+    assert least <= [2, 17] and all(it.startswith(("manylinux2014_", "musllinux_")) for it in port.machine.platforms)
     is_bound = "Root-Is-Purelib: false\n" in found.pop(f"{info}/WHEEL").decode()
     assert is_bound and wanted.pop(f"{info}/WHEEL"), "it is for one platform"
     rows = [it.rsplit(",", 2) for it in found.pop(f"{info}/RECORD").decode().splitlines()]
@@ -473,6 +476,8 @@ def test_package(made: Made, port: Port) -> None:
         "Package": "dnorm",
         "Version": f"{made.version.replace('-', '~')}-1",
         "Architecture": port.machine.debian,
+        # For python3-dnorm, also where it is for another architecture than the machine's.
+        "Multi-Arch": "foreign",
         "Maintainer": f"{WHO['NAME']} <{WHO['EMAIL']}>",
         "Suggests": "python3 (>= 3.9), parallel, libdnorm-dev",
     }
@@ -626,6 +631,31 @@ def test_installs(made: Made, two: Place) -> None:
         assert install(folder, "--uninstall", prefix) == said(), "./install --uninstall"
         assert all_below(prefix) == before, "what is left"
         shutil.rmtree(prefix)
+
+
+def test_installs_by_busybox(made: Made, two: Place) -> None:
+    """What ./install of the archive installs and uninstalls where there are only bash and the commands of busybox, of
+    which Debian's has no `install`, and where the umask is that of a single user."""
+    need("bash", "busybox")
+    commands, prefix = f"{made.folder}/busybox", f"{made.folder}/by busybox"
+    os.mkdir(commands)
+    for it in run(["busybox", "--list"]).out.decode().split():
+        if it not in ("bash", "busybox", "install"):
+            os.symlink(shutil.which("busybox") or "", f"{commands}/{it}")
+    os.symlink(shutil.which("bash") or "", f"{commands}/bash")
+    own = {"PATH": commands, "HOME": made.folder}
+    for _ in range(2):
+        found = run(["sh", "-c", 'umask 077; exec "$@"', "sh", f"{made.tree}/install", prefix], cwd="/", env=own)
+        assert (found.err, found.status) == (b"", 0), "./install by busybox"
+        told = found.out.decode().splitlines()
+        assert sorted(told[:-4]) == sorted(f"{prefix}/{it}" for it in all_listed()), "files that are printed"
+        assert told[-3] == f"export PATH={prefix.replace(' ', chr(92) + ' ')}/bin:$PATH", "the path is printed"
+    below = all_below(prefix)
+    wanted = {it: mode for mode, _, it in listed()} | dict.fromkeys(links_listed(), 0o644)
+    assert files_of(below) == wanted | {"share/dnorm/installed.txt": 0o644}, "what is installed by busybox"
+    assert {mode for it, mode in below.items() if os.path.isdir(f"{prefix}/{it}")} == {0o755}, "its folders' modes"
+    assert run([f"{made.tree}/install", "--uninstall", prefix], cwd="/", env=own) == said(), "--uninstall by busybox"
+    assert not os.path.exists(prefix), "nothing is left by busybox"
 
 
 def test_stages(scratch: Made) -> None:
