@@ -22,7 +22,9 @@ MEMBERS = re.compile(r"^typedef struct \w+ \{\n(.*?)^\} (\w+);$", re.M | re.S)
 RUST_MEMBERS = re.compile(r"^pub struct (\w+) \{\n(.*?)^\}$", re.M | re.S)
 # How Rust names the types of C.
 TYPES = {"uint8_t": "u8", "uint32_t": "u32", "uint64_t": "u64", "int64_t": "i64", "bool": "bool", "size_t": "usize"}
+# A scope of Rust may end before the last of its threads does, whose stack memcheck then reports as possibly lost.
 MEMCHECK = ["valgrind", "-q", "--error-exitcode=9", "--leak-check=full", "--errors-for-leak-kinds=definite"]
+MEMCHECK += ["--show-leak-kinds=definite"]
 
 # Versions that a project asks for, where the library's is MAJOR.MINOR.x, by whether CMake finds them.
 ASKED = {

@@ -116,7 +116,7 @@ def test_refusals(tested: str) -> None:
 def test_causes(help_of: Callable[[str], str]) -> None:
     causes = CAUSE_IN_HELP.findall(help_of("help").partition(CAUSES)[2].partition("\n\n")[0])
     paged = CAUSE_IN_PAGE.findall(text_of(PAGE).partition(CAUSES)[2].partition("\n.PP\n")[0])
-    assert causes and paged == [(name, plain(it)) for name, it in causes]
+    assert causes and [(name, plain(it)) for name, it in paged] == [(name, plain(it)) for name, it in causes]
 
 
 def test_page_of_library() -> None:
