@@ -14,7 +14,9 @@ from collections.abc import Callable
 from pathlib import Path
 from typing import Any
 
+import pytest
 from known import ROADS, ROADS_CANON
+from needs import need
 from shared import LIMIT, bytes_of, run, write
 from test_calls import BOTH, CALLS, COMPRESS, PACKAGE, READS, fake, told
 
@@ -38,11 +40,11 @@ class Parts:
 
 
 def test_compressed() -> None:
-    """Compressed files: of several streams and with zeros behind them. Cut after each byte, with each byte
-    changed, and with other bytes behind them they cannot be read, even if their text seems to have a fault."""
+    """Compressed files, also of several streams. Cut after each byte, with each byte changed, and with other bytes
+    behind them they cannot be read, even if their text seems to have a fault."""
     for end, compress in COMPRESS.items():
         data, name = compress(ROADS), f"t{end}"
-        for whole in [data, compress(ROADS[:30]) + compress(b"") + compress(ROADS[30:]), data + bytes(8)]:
+        for whole in [data, compress(ROADS[:30]) + compress(b"") + compress(ROADS[30:])]:
             write(name, whole)
             assert told(lambda: dnorm.canon(name)) == ROADS_CANON.decode(), f"{end} of {len(whole)} bytes"
         for at in range(len(data)):
@@ -64,6 +66,29 @@ def test_compressed() -> None:
         assert told(lambda: dnorm.canon(f"large{end}")) == ROADS_CANON.decode(), f"a large {end}"
         write(f"zeros{end}", compress(b"c" * 50_000_000 + b"\n" + ROADS))
         assert told(lambda: dnorm.canon(f"zeros{end}")) == ROADS_CANON.decode(), f"a long line in {end}"
+
+
+# The tool of each compression, which prints the text of its standard input.
+TOOLS = {".gz": ["gzip", "-dc"], ".bz2": ["bzip2", "-dc"], ".xz": ["xz", "-dc", "--format=xz"]}
+
+
+@pytest.mark.parametrize("end", TOOLS)
+def test_as_tools(end: str) -> None:
+    """A file is read if the tool of its compression reads it to its end, and neither fails nor warns: with zeros or
+    other bytes before, between and behind two streams."""
+    need(TOOLS[end][0])
+    first, second = COMPRESS[end](ROADS[:30]), COMPRESS[end](ROADS[30:])
+    fillings = [bytes(it) for it in (0, 1, 2, 3, 4, 5, 7, 8, 12, 511, 512, 70_000, 70_001)]
+    fillings += [b"x", b"\0x", b"\0\0\0\0x", first[:1], first[:2], b"\0" + first[:2], COMPRESS[end](b"")]
+    for at, whole in enumerate(
+        it for x in fillings for it in (x + first + second, first + x + second, first + second + x)
+    ):
+        write(f"t{end}", whole)
+        by_tool = run(TOOLS[end], whole)
+        is_read = (by_tool.out, by_tool.err, by_tool.status) == (ROADS, b"", 0)
+        found = told(lambda: dnorm.canon(f"t{end}"))
+        wanted = ROADS_CANON.decode() if is_read else f"Read: t{end}: 31 Read ("
+        assert found.startswith(wanted), f"filling {fillings[at // 3][:9]!r}, place {at % 3}, {by_tool.err!r}: {found}"
 
 
 def test_streams() -> None:
@@ -204,13 +229,20 @@ def test_sinks() -> None:
 NONE = "there is no such program"
 WHERE = "the wheels for Linux on x86-64 and ARM bring it, and docs/FILES.md names other ways"
 # Where the program is looked for: the argument, $DNORM, PATH, and the error if it is not found.
+# Lists of folders that name only the current one, and one in it.
+AT = ["bin", ".:bin", "", ":", "./bin:", "/none::"]
 PLACES: list[tuple[str | None, str | None, str, str]] = [
     ("bin/dnorm", None, "/none", ""),
-    ("dnorm", "/none", "bin", ""),
+    ("dnorm", "/none", "{}/bin", ""),
+    ("dnorm", "/none", "bin", f"NoProgram: dnorm: cannot be run ({NONE})"),
     (None, "bin/dnorm", "/none", ""),
-    (None, "dnorm", "bin", ""),
-    (None, None, "/none:bin", ""),
-    (None, "", "bin", ""),
+    (None, "dnorm", "{}/bin", ""),
+    (None, None, "/none:{}/bin", ""),
+    (None, "", "{}/bin", ""),
+    *[
+        (None, None, it, f"NoProgram: dnorm: cannot be run ({NONE} on PATH, and $DNORM names none; {WHERE})")
+        for it in AT
+    ],
     ("/none", "bin/dnorm", "bin", f"NoProgram: /none: cannot be run ({NONE})"),
     ("bin", "bin/dnorm", "bin", f"NoProgram: bin: cannot be run ({NONE})"),
     ("bin/plain", None, "bin", "NoProgram: bin/plain: cannot be run (the file cannot be run)"),
@@ -224,10 +256,11 @@ def test_places(tested: str) -> None:
     """Where the program is looked for."""
     os.mkdir("bin")
     os.symlink(tested, "bin/dnorm")
+    os.symlink(tested, "dnorm")
     write("bin/plain", b"")
     kept = dict(os.environ)
     for program, named, path, error in PLACES:
-        os.environ["PATH"] = path
+        os.environ["PATH"] = path.format(os.getcwd())
         os.environ.pop("DNORM")
         if named is not None:
             os.environ["DNORM"] = named

@@ -22,6 +22,7 @@ or a compressed file is corrupt, no call returns an answer for it.
 `dnorm-files`, or `python3 -m dnorm`, checks and lists folders, makes and verifies checksums of their files, and
 explains refusals."""
 
+from . import alone  # noqa: F401
 from .answers import CapacityPair, Checked, CostPair, Difference, LengthPair, Same, Shown
 from .calls import canon, canon_to, check, checksum, compare, show, write
 from .columns import Column

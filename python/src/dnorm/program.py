@@ -112,18 +112,31 @@ def command(program: Program) -> list[str]:
     named = os.environ.get("DNORM")
     if program is None and not named:
         installed = (f"{it}/dnorm" for it in script_folders())
-        found = next(filter(shutil.which, installed), None) or shutil.which("dnorm")
+        found = next(filter(shutil.which, installed), None) or on_path("dnorm")
         if not found:
             raise NoProgram("dnorm", f"there is no such program on PATH, and $DNORM names none; {WHERE}")
         return [found]
     wanted = named or "" if program is None else os.fspath(program)
     # A path may contain blanks. If there is no such file, they separate words.
     for words in ([wanted], split(wanted)):
-        found = shutil.which(words[0]) if words else None
+        found = on_path(words[0]) if words else None
         if found:
             return [found, *words[1:]]
-    reason = "the file cannot be run" if os.path.isfile(wanted) else "there is no such program"
+    reason = "the file cannot be run" if "/" in wanted and os.path.isfile(wanted) else "there is no such program"
     raise NoProgram(wanted, reason + (", and $DNORM names it" if program is None else ""))
+
+
+def on_path(name: str) -> str | None:
+    """Returns the path of a command that is on `PATH`, or that is a path itself. The folders of `PATH` that depend on
+    the current one are passed over, since that may have files of any name."""
+    folders = filter(os.path.isabs, os.environ.get("PATH", os.defpath).split(os.pathsep))
+    return shutil.which(name, path=os.pathsep.join(folders) or os.devnull)
+
+
+def absolute(program: Program) -> str:
+    """Returns the program as `find_program` does, so that it is the same in any folder."""
+    first, *words = command(program)
+    return shlex.join([os.path.abspath(first), *words])
 
 
 def split(line: str) -> list[str]:

@@ -16,7 +16,7 @@ from typing import NoReturn
 from ..console import SIGNALS, Console, Stopped, has_output, stop
 from ..errors import DnormError
 from ..files import reason_of
-from ..program import children, command, processors
+from ..program import children, command, on_path, processors
 from .chunks import Ended, Options, Parts, fail
 from .machines import Jobs
 
@@ -121,15 +121,14 @@ class Place:
         self.here, self.root = here, root
 
     def program(self) -> str:
-        """Returns the program: in a clone, the built program, which is built first if it does not exist; otherwise the
-        program beside the script, where both are installed, or at the top of a release."""
+        """Returns the program: in a clone, the one that ./dnorm runs, which builds it first if there is none; otherwise
+        the program beside the script, where both are installed, or at the top of a release."""
         if os.path.exists(f"{self.root}/crates.txt"):
-            built = f"{self.root}/crates/dnorm/out/dnorm"
-            if not os.access(built, os.X_OK):
-                ran = subprocess.run([f"{self.root}/dnorm", "--version"], stdout=subprocess.DEVNULL, check=False)
+            for it in ["dnorm", "tools/program"]:
+                ran = subprocess.run([f"{self.root}/{it}", "--version"], stdout=subprocess.PIPE, check=False)
                 if ran.returncode:
                     raise Ended(125, "")
-            return built
+            return os.fsdecode(ran.stdout).rstrip("\n")
         beside = f"{self.here}/dnorm"
         return beside if os.access(beside, os.X_OK) else f"{self.root}/dnorm"
 
@@ -212,7 +211,7 @@ def folder_in(place: str) -> Iterator[str]:
 
 def has_parallel() -> bool:
     """Whether GNU parallel is on the path. Another tool has the same name."""
-    path = shutil.which("parallel")
+    path = on_path("parallel")
     if not path:
         return False
     with open(path, "rb") as file:

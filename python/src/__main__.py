@@ -1,0 +1,20 @@
+"""Runs `dnorm-files`, as `python3 FILE` with this file. Python then looks for modules in the folder of the file, and
+not in the current one, as it does for `python3 -m dnorm`."""
+
+# Python's own part of the module signal, which takes no time. Until the command is there, Ctrl-C just ends the process,
+# unless it is ignored.
+import _signal  # type: ignore[import]
+import sys
+
+handler = _signal.getsignal(_signal.SIGINT)
+if handler is _signal.default_int_handler:
+    _signal.signal(_signal.SIGINT, _signal.SIG_DFL)
+if getattr(sys.flags, "safe_path", False):
+    # Python has not put the folder there.
+    sys.path.insert(0, __file__.rpartition("/")[0])
+
+# What takes the time comes after this.
+from dnorm.commands.line import main  # noqa: E402
+
+_signal.signal(_signal.SIGINT, handler)
+sys.exit(main())
