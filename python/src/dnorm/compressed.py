@@ -15,10 +15,13 @@ SIZE = 1 << 16
 
 class Stream:
     """Decompresses one stream of a format. `it` is the decompressor of the standard library, and `error` is what it
-    raises for corrupt data."""
+    raises for corrupt data. `pads` says whether so many zeros may follow the stream, given whether they end the file:
+    the tool of the format neither fails nor warns then, and reads on."""
 
-    def __init__(self, it: Any, error: type[Exception]) -> None:
-        self._it, self._error = it, error
+    def __init__(
+        self, it: Any, error: type[Exception], pads: Callable[[int, bool], bool] = lambda zeros, _: not zeros
+    ) -> None:
+        self._it, self._error, self.pads = it, error, pads
 
     def is_at_end(self) -> bool:
         return bool(self._it.eof)
@@ -60,7 +63,7 @@ def gunzip() -> Stream:
     import zlib
 
     # 15 is the greatest window, and 16 asks for the header and the checksum of gzip.
-    return Stream(zlib.decompressobj(15 + 16), zlib.error)
+    return Stream(zlib.decompressobj(15 + 16), zlib.error, lambda zeros, is_end: is_end or not zeros)
 
 
 def bunzip2() -> Stream:
@@ -72,7 +75,7 @@ def bunzip2() -> Stream:
 def unxz() -> Stream:
     import lzma
 
-    return Stream(lzma.LZMADecompressor(lzma.FORMAT_XZ), lzma.LZMAError)
+    return Stream(lzma.LZMADecompressor(lzma.FORMAT_XZ), lzma.LZMAError, lambda zeros, _: zeros % 4 == 0)
 
 
 class Zstandard:
@@ -181,8 +184,9 @@ def raise_for(reason: str) -> None:
 
 def pieces(file: Reading, start: Callable[[], Stream]) -> Iterator[bytes]:
     """Yields what a compressed file decompresses to, piece by piece. The file has one stream or several, one after
-    another. Raises EOFError if the last one is cut, and OSError if one is corrupt, or if other bytes than zeros follow
-    it. The functions of the standard library ignore what follows a stream of bzip2 and xz, even a corrupt stream."""
+    another. Raises EOFError if the last one is cut, and OSError if one is corrupt, or if anything follows one that the
+    tool of the format does not take. The functions of the standard library ignore what follows a stream of bzip2 and
+    xz, even a corrupt stream."""
     data = file.read(SIZE)
     while True:
         stream, size = start(), 0
@@ -193,9 +197,22 @@ def pieces(file: Reading, start: Callable[[], Stream]) -> Iterator[bytes]:
             size = len(piece)
             yield piece
             data = file.read(SIZE) if size < SIZE and not stream.is_at_end() else b""
-        data = stream.after_end()
-        while not data.strip(b"\0"):
-            data = file.read(SIZE)
-            if not data:
-                return
-        data = data.lstrip(b"\0")
+        zeros, data = after_zeros(stream.after_end(), file)
+        if not stream.pads(zeros, not data):
+            raise OSError(f"{zeros} zero {'byte follows' if zeros == 1 else 'bytes follow'} the compressed data")
+        if not data:
+            return
+
+
+def after_zeros(data: bytes, file: Reading) -> tuple[int, bytes]:
+    """Returns the number of zeros that come next, in the data or in the file, and the data behind them, if there are
+    any."""
+    zeros = 0
+    while True:
+        rest = data.lstrip(b"\0")
+        zeros += len(data) - len(rest)
+        if rest:
+            return zeros, rest
+        data = file.read(SIZE)
+        if not data:
+            return zeros, b""
