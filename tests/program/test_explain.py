@@ -21,6 +21,8 @@ EXPLAIN = f"{ROOT}/dnorm-explain"
 pytestmark = pytest.mark.usefixtures("folder")
 # Refused files, and the lines that dnorm-explain prints below their refusals.
 COUNTS = "only a, s, q and v lines count"
+PAGE = "The file is a page of the web, as a server sends for an error or a login: get the file again"
+CONFLICT = "The line is of a conflict that git could not merge: keep one side, and remove such lines"
 EXPLAINED: list[tuple[str, bytes, list[str]]] = [
     ("a.gr", b"p sp 2 1\na 1 2 7\n \ta 2 1 4\r\n", ["line 3:  ^Ia 2 1 4^M", f"declared 1, found 2: {COUNTS}"]),
     ("b c.ss", b"c p\n\tp aux sp ss 2\r\ns 1\nab\n", ["line 4: ab"]),
@@ -47,6 +49,23 @@ EXPLAINED: list[tuple[str, bytes, list[str]]] = [
             "The file is a pointer of Git LFS, and the text is missing: git lfs pull",
         ],
     ),
+    (
+        "l.gr",
+        b"/annex/objects/SHA256E-s12--0.gr\n",
+        [
+            "line 1: /annex/objects/SHA256E-s12--0.gr",
+            "The file is a pointer of git-annex, and the text is missing: git annex get",
+        ],
+    ),
+    *[
+        (f"m{at}.gr", text, [f"line 1: {text.splitlines()[0].decode()}", PAGE])
+        for at, text in enumerate([b"<!DOCTYPE html>\n", b"<HTML><body>\n", b'<?xml version="1.0"?>\n<html>'])
+    ],
+    *[
+        (f"n{at}.gr", b"p sp 2 1\n" + text + b"\na 1 2 3\n", [f"line 2: {text.decode()}", CONFLICT])
+        for at, text in enumerate([b"<<<<<<< HEAD", b"||||||| 1234567", b"=======", b">>>>>>> branch"])
+    ],
+    ("o.gr", b"p sp 2 1\n==\n", ["line 2: =="]),
 ]
 # Command lines that dnorm refuses, in a folder with the files t.gr and u.gr, and what dnorm-explain says of them.
 WRONG_WORDS = [
@@ -97,6 +116,8 @@ MENDED = [
     (b"\xef\xbb\xbf" + ROADS, "The file begins with a byte order mark: tail -c +4 < a\\ b"),
     (ROADS.decode().encode("utf-16"), "The file is in UTF-16: iconv -f UTF-16 -t UTF-8 < a\\ b"),
     (b"\xfe\xff" + ROADS.decode().encode("utf-16-be"), "The file is in UTF-16: iconv -f UTF-16 -t UTF-8 < a\\ b"),
+    (ROADS.decode().encode("utf-16-le"), "The file is in UTF-16 without a mark: iconv -f UTF-16LE -t UTF-8 < a\\ b"),
+    (ROADS.decode().encode("utf-16-be"), "The file is in UTF-16 without a mark: iconv -f UTF-16BE -t UTF-8 < a\\ b"),
     (ROADS.replace(b"\n", b"\r"), "CR alone ends lines: tr '\\r' '\\n' < a\\ b"),
     (ROADS + b"\x1a", "The line ends in NUL or Ctrl-Z: tr -d '\\0\\032' < a\\ b"),
     (ROADS + bytes(3), "The line ends in NUL or Ctrl-Z: tr -d '\\0\\032' < a\\ b"),

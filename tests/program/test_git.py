@@ -1,5 +1,6 @@
 """The scripts for git do in a repository what they say."""
 
+import gzip
 import os
 import re
 import shutil
@@ -7,21 +8,30 @@ import shutil
 import pytest
 from known import ROADS, ROADS_CANON
 from needs import need
-from shared import Answer, run, write
+from shared import ROOT, Answer, run, write
 from test_share import SHARE
 
 
+# Counts at the end.
+ONE = b"0 accepted, 1 refused, 0 failed\n"
+ONE_OF_TWO = b"1 accepted, 1 refused, 0 failed\n"
+ALONE = b"1 accepted, 0 refused, 0 failed, 1 companion without a graph\n"
+BAD = b"p aux sp ss 1\ns 9\n"
+
+
 class Repository:
-    """A repository that has the scripts for git, with the program on the path."""
+    """A repository that has the scripts for git, with dnorm and dnorm-files on the path."""
 
     def __init__(self, tested: str, folder: str) -> None:
-        self.top = f"{folder}/top"
+        self.top, self.tested = f"{folder}/top", tested
         os.makedirs(f"{folder}/bin")
         os.mkdir(self.top)
         os.symlink(tested, f"{folder}/bin/dnorm")
+        os.symlink(f"{ROOT}/dnorm-files", f"{folder}/bin/dnorm-files")
         who = {f"GIT_{one}_{it}": "a@example.org" for one in ["AUTHOR", "COMMITTER"] for it in ["NAME", "EMAIL"]}
         alone = {"GIT_CONFIG_GLOBAL": "/dev/null", "GIT_CONFIG_NOSYSTEM": "1"}
         self.environment = {**os.environ, **who, **alone, "PATH": f"{folder}/bin:{os.environ['PATH']}"}
+        self.environment["DNORM"] = tested
         self.git("init", "-q")
         self.git("config", "diff.dnorm.textconv", f"{SHARE}/git/textconv")
         self.put(".gitattributes", b"*.gr diff=dnorm\n")
@@ -38,10 +48,17 @@ class Repository:
         write(f"{self.top}/{name}", text)
         self.git("add", "--", name)
 
+    def blob(self, text: bytes) -> str:
+        """Keeps a text in the repository, and returns its name there."""
+        return (
+            run(["git", "hash-object", "-w", "--stdin"], text, cwd=self.top, env=self.environment).out.decode().strip()
+        )
+
     def commits(self, what: str, err: bytes = b"") -> None:
         """Tests that what is staged is committed, or is refused with these lines."""
         found = self.git("commit", "-q", "-m", what)
-        assert (found.err, found.status) == (err, 1 if err else 0), f"a commit of {what}"
+        status = 1 if b" 0 refused, 0 failed" not in (err or b" 0 refused, 0 failed") else 0
+        assert (found.err, found.status) == (err, status), f"a commit of {what}"
 
     def differs(self, what: str, lines: list[bytes]) -> None:
         """Tests which lines `git diff` shows as removed and added."""
@@ -56,9 +73,11 @@ class Repository:
         self.commits("a first text")
         self.put("a b:7.gr", b"x\n")
         self.put("c.min", b"p min 1 1\n")
-        self.commits("refused texts", b"a b:7.gr:1: 1 BadLine\n    line 1: x\nc.min:end: 20 TooFewLines\n")
+        refused = b"a b:7.gr:1: 1 BadLine\n    line 1: x\nc.min:end: 20 TooFewLines\n"
+        refused += b"    declared 1, found 0: only a, s, q and v lines count\n0 accepted, 2 refused, 0 failed\n"
+        self.commits("refused texts", refused)
         write(f"{self.top}/a b:7.gr", ROADS)
-        self.commits("what is staged still", b"a b:7.gr:1: 1 BadLine\n    line 1: x\nc.min:end: 20 TooFewLines\n")
+        self.commits("what is staged still", refused)
         self.put("a b:7.gr", ROADS)
         self.git("rm", "-q", "--cached", "c.min")
         self.commits("texts that are mended")
@@ -67,11 +86,12 @@ class Repository:
         self.put("UP.GR", b"x\n")
         os.chmod(f"{self.top}/UP.GR", 0o755)
         self.git("add", "UP.GR")
-        self.commits("an executable text with a name in capitals", b"UP.GR:1: 1 BadLine\n    line 1: x\n")
+        refused = b"UP.GR:1: 1 BadLine\n    line 1: x\n" + ONE
+        self.commits("an executable text with a name in capitals", refused)
         self.git("rm", "-q", "-f", "UP.GR")
         os.symlink("notes.txt", f"{self.top}/link.gr")
         self.git("add", "link.gr")
-        self.commits("a link to a refused text", b"link.gr:1: 2 EarlyLine\n    line 1: a 1 2 3\n")
+        self.commits("a link to a refused text", b"link.gr:1: 2 EarlyLine\n    line 1: a 1 2 3\n" + ONE)
         os.remove(f"{self.top}/link.gr")
         os.symlink("roads.gr", f"{self.top}/link.gr")
         self.git("add", "link.gr")
@@ -86,7 +106,7 @@ class Repository:
         self.put(".gitattributes", b"*.gr diff=dnorm\n/stored.gr filter=elsewhere\n")
         self.put("stored.gr", b"x\n")
         assert self.git("cat-file", "blob", ":0:stored.gr").out == b"pointer\n", "what is staged"
-        self.commits("a refused text elsewhere", b"stored.gr:1: 1 BadLine\n    line 1: x\n")
+        self.commits("a refused text elsewhere", b"stored.gr:1: 1 BadLine\n    line 1: x\n" + ONE)
         self.put("stored.gr", ROADS)
         self.commits("a text elsewhere")
         self.git("config", "filter.elsewhere.smudge", "false")
@@ -99,7 +119,10 @@ class Repository:
 
     def textconv(self) -> None:
         """Tests the script of `git diff`, by itself and called by git."""
-        for name, text, wanted in [("-a b.gr", ROADS, ROADS_CANON), ("x.gr", b"a\0 1\n", b"a\0 1\n"), ("e", b"", b"")]:
+        rows = [("-a b.gr", ROADS, ROADS_CANON), ("x.gr", b"a\0 1\n", b"a\0 1\n"), ("e", b"", b"")]
+        rows += [("a.GR.gz", gzip.compress(ROADS), ROADS_CANON), ("b.gr.gz", ROADS, ROADS_CANON)]
+        rows += [("cut.gr.gz", cut, cut) for cut in [gzip.compress(ROADS)[:-9]]]
+        for name, text, wanted in rows:
             write(f"{self.top}/{name}", text)
             assert self.run(f"{SHARE}/git/textconv", name) == Answer(wanted, b"", 0), f"textconv {name}"
         write(f"{self.top}/roads.gr", ROADS_CANON)
@@ -124,3 +147,67 @@ def test_textconv(repository: Repository) -> None:
     repository.put("roads.gr", ROADS)
     repository.commits("a first text")
     repository.textconv()
+
+
+def test_push(repository: Repository) -> None:
+    """The hook of a bare repository: it refuses a push of refused texts, to a branch and as a new one."""
+    repository.put("roads.gr", ROADS)
+    repository.put("roads.ss", b"p aux sp ss 1\ns 1\n")
+    repository.commits("texts")
+    repository.git("clone", "-q", "--bare", ".", "../bare.git")
+    shutil.copy(f"{SHARE}/git/pre-receive", f"{repository.top}/../bare.git/hooks/pre-receive")
+    repository.put("x.gr", b"x\n")
+    repository.put("roads.ss", b"p aux sp ss 1\ns 9\n")
+    repository.git("commit", "-q", "--no-verify", "-m", "refused texts")
+    told = ["roads.ss: 35 NotInGraph 9", "line 2 names it: s 9", "x.gr:1: 1 BadLine", "line 1: x"]
+    told += ["0 accepted, 2 refused, 0 failed"]
+    for branch in ["main", "new"]:
+        found = repository.git("push", "-q", "../bare.git", f"HEAD:refs/heads/{branch}")
+        lines = [it.removeprefix("remote:").strip() for it in found.err.decode().splitlines()]
+        assert lines[:6] == [*told, f"refs/heads/{branch} is refused"] and found.status == 1, f"a push to {branch}"
+    repository.git("rm", "-q", "x.gr")
+    repository.put("roads.ss", b"p aux sp ss 1\ns 2\n")
+    repository.commits("texts that are mended")
+    for branch in ["main", "new"]:
+        found = repository.git("push", "-q", "../bare.git", f"HEAD:refs/heads/{branch}")
+        assert (found.err, found.status) == (b"", 0), f"a push to {branch}"
+    assert repository.git("push", "-q", "../bare.git", ":refs/heads/new").status == 0, "a branch that is removed"
+    repository.put("lone.co", b"p aux sp co 0\n")
+    repository.commits("a companion alone", b"lone.co: accepted co, no graph\n" + ALONE)
+    repository.git("-C", "../bare.git", "config", "dnorm.strict", "true")
+    found = repository.git("push", "-q", "../bare.git", "HEAD:refs/heads/main")
+    assert (b"lone.co: 31 Read (accepted co, no graph)" in found.err, found.status) == (True, 1), "a strict push"
+
+
+def test_sparse(repository: Repository) -> None:
+    """A link to a file outside of a sparse checkout, and a graph there."""
+    repository.put("roads.gr", ROADS)
+    os.mkdir(f"{repository.top}/far")
+    repository.put("far/x.gr", ROADS)
+    repository.put("far/y.gr", ROADS)
+    repository.commits("texts")
+    repository.git("sparse-checkout", "set", "near")
+    assert not os.path.exists(f"{repository.top}/far/x.gr")
+    os.symlink("far/x.gr", f"{repository.top}/link.gr")
+    repository.git("add", "link.gr")
+    repository.git("update-index", "--add", "--cacheinfo", f"100644,{repository.blob(BAD)},far/y.ss")
+    repository.commits("a link and a companion", b"far/y.ss: 35 NotInGraph 9\n    line 2 names it: s 9\n" + ONE_OF_TWO)
+
+
+def test_other_program(repository: Repository) -> None:
+    """A program that is not dnorm accepts nothing."""
+    repository.put("x.gr", b"x\n")
+    for it in ["/bin/true", "true", "/none", "env /none"]:
+        repository.environment["DNORM"] = it
+        found = repository.git("commit", "-q", "-m", "x")
+        assert (found.status, found.err.count(b"\n")) == (1, 1), f"a commit by {it}: {found.err.decode()}"
+    repository.environment["DNORM"] = repository.tested
+    assert repository.git("commit", "-q", "-m", "x").status == 1, "a refused text"
+
+
+def test_no_room(repository: Repository) -> None:
+    """A text that cannot be written to a temporary file, as on a full disk."""
+    repository.put("big.gr", b"c " + 100_000 * b"x" + b"\n" + ROADS)
+    found = repository.run("bash", "-c", "ulimit -f 8; exec .git/hooks/pre-commit")
+    wanted = b"big.gr: 31 Read (File too large)\n0 accepted, 0 refused, 1 failed\n"
+    assert (found.err, found.status) == (wanted, 4)

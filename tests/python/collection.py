@@ -10,6 +10,7 @@ import os
 import random
 import socket
 import zipfile
+from collections.abc import Callable
 
 from known import ROADS
 from reading import Fault, read
@@ -73,8 +74,24 @@ FOLLOWS = [
     " (1).gz",
     ",v",
     ".gz~",
+    "2",
+    "001",
+    "1.gz",
+    "old",
+    "old2",
+    ".bak",
+    "orig.zst",
+    "_old.xz",
+    "~.zst",
 ]
 GZIP = gzip.compress(GRAPH, mtime=0)
+# Zeros between two streams, where the tool of the format fails, warns or leaves out the second one.
+GAPS: list[tuple[str, Callable[[bytes], bytes], bytes]] = [
+    (".gr.gz", gzip.compress, bytes(512)),
+    (".gr.bz2", COMPRESS[".bz2"], bytes(1)),
+    (".gr.xz", COMPRESS[".xz"], bytes(6)),
+    (".gr.zst", zstd, bytes(4)),
+]
 # Compressed files that are cut, damaged or followed by other bytes, or that hold another compression.
 CUT_OR_DAMAGED = {
     "cut8.gr.gz": GZIP[:-8],
@@ -83,6 +100,10 @@ CUT_OR_DAMAGED = {
     "more.gr.bz2": COMPRESS[".bz2"](GRAPH) + b"garbage",
     "xz.gr.gz": COMPRESS[".xz"](GRAPH),
     "more.gr.zst": zstd(GRAPH) + b"xx",
+    **{f"zeros.gr{it}": COMPRESS[it](GRAPH) + bytes(8) for it in [".bz2"]},
+    "zeros.gr.zst": zstd(GRAPH) + bytes(8),
+    **{f"zeros{it}.gr.xz": COMPRESS[".xz"](GRAPH) + bytes(it) for it in (1, 2, 3, 7)},
+    **{f"gap{it}": pack(GRAPH) + zeros + pack(b"a 1 1 1\n") for it, pack, zeros in GAPS},
     "cut.gr.zst": zstd(GRAPH)[:-9],
     **{f"empty.gr{it}": b"" for it in (".gz", ".bz2", ".xz", ".zst")},
 }
@@ -124,7 +145,8 @@ TEXT_FAULTS: dict[str, tuple[bytes, str]] = {
 ODD = {
     "coll/packed/two.gr.gz": gzip.compress(GRAPH[:13]) + gzip.compress(GRAPH[13:]),
     "coll/packed/none-first.gr.gz": gzip.compress(b"") + GZIP,
-    "coll/packed/zeros.gr.gz": GZIP + bytes(512),
+    "coll/packed/zeros.gr.gz": GZIP + bytes(513),
+    "coll/packed/zeros.gr.xz": COMPRESS[".xz"](GRAPH[:13]) + bytes(4) + COMPRESS[".xz"](GRAPH[13:]) + bytes(512),
     "coll/packed/two.gr.xz": COMPRESS[".xz"](GRAPH[:13]) + COMPRESS[".xz"](GRAPH[13:]),
     "coll/packed/two.gr.bz2": COMPRESS[".bz2"](GRAPH[:13]) + COMPRESS[".bz2"](GRAPH[13:]),
     "coll/packed/long.gr.gz": gzip.compress(b"c" * 30_000_000 + b"\n" + GRAPH),
@@ -162,6 +184,7 @@ BROKEN: dict[str, tuple[bytes, str]] = {
     "coll/gzipped.gr.xz": (gzip.compress(GRAPH), NO),
     "coll/pointer.gr.gz": (POINTER, f"{NO}|: it is a pointer of Git LFS, and its text is missing "),
     "coll/worse.gr": (BAD, ":2: 13 NodeOutOfRange"),
+    "coll/data/CVS/x.gr": (BAD, ":2: 13 NodeOutOfRange"),
     "coll/pointer.min": (POINTER, ":1: 1 BadLine|: it is a pointer of Git LFS, and its text is missing "),
     "coll/fit.ss": (b"p aux sp ss 1\ns 999\n", ": 35 NotInGraph 999"),
     "coll/Fit2.p2p": (b"p aux sp p2p 1\nq 1 31\n", ": 35 NotInGraph 31"),
@@ -216,6 +239,7 @@ GRAPHS = {
 }
 # Files that the guards count, and do not look at.
 OTHERS = ["coll/x.net", "coll/noend", "coll/bad.dimacs", "coll/bad.txt", "coll/README.md", "coll/x.zst"]
+OTHERS += ["coll/a.graph", "coll/b.co2x", "coll/c.minold-x9a.txt", "coll/d.newer", "coll/e.groldest"]
 OTHERS += ["coll/jquery.min.js", "coll/page.min.css.map", "coll/gr.d/notes", "coll/a.grid", "coll/a.max-flow.csv"]
 # What no version control keeps, and no guard opens: a pipe and a socket.
 PIPES = {"coll/pipe.gr": NO, "coll/socket.min.gz": NO}
@@ -251,4 +275,5 @@ def make_collection() -> dict[str, str]:
         os.symlink(to, name)
     os.makedirs("coll/.git/refs/heads/feature")
     write("coll/.git/refs/heads/feature/fix.gr", 40 * "1")
+    make({"coll/inst/CVS/Entries": b"", "coll/inst/CVS/Base.gr": BAD})
     return remarks

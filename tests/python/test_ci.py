@@ -21,7 +21,12 @@ VERSION = "1.2.3"
 # A step that runs commands, and a value of the job's environment.
 STEP = re.compile(r"^ +run: \|\n((?: {10}.*\n)+)", re.M)
 VALUE = re.compile(r"^ {6}(\w+): (\S+)$", re.M)
-FIELD = re.compile(r"^[- ] (\w+): (.*)$", re.M)
+FIELD = re.compile(r"^[- ] (\w+): (?:>-\n((?: {4}.*\n)+)|(.*)$)", re.M)
+
+
+def fields_of_hook() -> dict[str, str]:
+    """Returns the fields of the hook for pre-commit. One that has several lines is joined by blanks."""
+    return {name: value.strip("'") or " ".join(lines.split()) for name, lines, value in FIELD.findall(text_of(HOOKS))}
 
 
 def make_release(tested: str) -> None:
@@ -80,7 +85,7 @@ def test_workflow(tested: str) -> None:
     write("texts/below/roads.gr", ROADS)
     runner = Runner()
     assert len(runner.steps) == 2, "the steps"
-    assert re.search(r"checkout@.*\n +with:\n +lfs: true\n", text_of(WORKFLOW)), "it fetches Git LFS"
+    assert re.search(r"checkout@.*\n +with:\n +lfs: true\n +submodules: recursive\n", text_of(WORKFLOW)), "all of it"
     found = runner.run()
     wanted = Answer(b"", b"1 accepted, 0 refused, 0 failed\n", 0)
     assert (found[-1], len(found)) == (wanted, 2), "a repository of accepted texts"
@@ -118,6 +123,16 @@ CHOSEN = {
     "a.gr~": True,
     "a.gr ": True,
     "a.GR (1).gz": True,
+    "a.gr~.zst": True,
+    "a.gr-1.xz": True,
+    "a.gr2": True,
+    "a.gr001.gz": True,
+    "a.minold": True,
+    "a.min.old": True,
+    "a.max_new2.bz2": True,
+    "a.maxnew2.bz2": True,
+    "a.grolder": False,
+    "a.co2x": False,
     "a.co-op.txt": False,
     "a.co-op/notes": False,
     "a.gr.d/notes.txt": False,
@@ -133,7 +148,7 @@ CHOSEN = {
 
 def test_pre_commit() -> None:
     """The hook for pre-commit: which files it names, and how it is called."""
-    fields = {name: value.strip("'") for name, value in FIELD.findall(text_of(HOOKS))}
+    fields = fields_of_hook()
     wanted = {"id": "dnorm", "language": "script", "require_serial": "true"}
     assert {it: fields.get(it) for it in wanted} == wanted, "the hook"
     found_ = {it: bool(re.search(fields["files"], it) and not re.search(fields["exclude"], it)) for it in CHOSEN}

@@ -3,7 +3,6 @@
 
 import contextlib
 import ctypes
-import hashlib
 import json
 import os
 import re
@@ -16,12 +15,11 @@ from typing import Any
 from xml.etree import ElementTree
 
 import pytest
-from known import COSTS, COSTS_TWO, FLOWS, ROADS, ROADS_CANON
+from known import COSTS, COSTS_TWO, ROADS, ROADS_CANON
 from needs import terminal
 from shared import LIMIT, Answer, bytes_of, run, said, write
 from test_calls import BOTH, COMPRESS, PACKAGE, READS, fake
 
-import dnorm
 from dnorm.commands.folders import Workers
 from dnorm.commands.tasks import DONE
 
@@ -97,14 +95,14 @@ CHECKS = [
     (
         "--strict --exclude gr --exclude *.txt --exclude *pipe* --exclude a/l* --exclude bad.max --exclude v.co set",
         LINES.replace("set/bad.max:end: 19 MissingTerminal\n", "").replace("set/v.co:2: 5 WrongLine\n", ""),
-        "11 accepted, 0 refused, 0 failed",
+        "11 accepted, 0 refused, 0 failed, 6 excluded",
         0,
     ),
     (
         "--exclude a --exclude *.gr* --exclude *.?o set",
         "set/bad.max:end: 19 MissingTerminal\nset/flow.min: accepted min"
         "\nset/p.p2p: accepted p2p\nset/s.ss: accepted ss\n",
-        "3 accepted, 1 refused, 0 failed, 3 other files",
+        "3 accepted, 1 refused, 0 failed, 3 other files, 7 excluded",
         2,
     ),
     ("set/a", LINES_A, "3 accepted, 0 refused, 0 failed, 1 other file", 0),
@@ -138,6 +136,7 @@ WRONG = [
     *["", "x", "check", "check --jobs 0 set", "check --jobs x set", "check --jobs", "check --js set"],
     *["check --form 2 set", "check --junit", "check --timeout 0 set", "check --json --output-format github set"],
     *["check --output-format xml set", "check --csv set", "check --files0-from", "check --files0-from - -"],
+    *["check --staged=x set", "check --staged -q", "check --staged --incremental x", "manifest --staged"],
     *["manifest", "manifest --form 3 set", "manifest --verify x --form 2", "manifest --verify x --output y"],
     *["manifest --verify x --incremental y", "manifest --output x --incremental y z"],
     *["manifest -q set", "manifest --junit x set", "same", "same --csv x", "same -q x", "same --companions x"],
@@ -228,6 +227,13 @@ def test_permission() -> None:
     found = module("check", "set/a", "set/s.ss", preexec_fn=give_up_rights)
     count = "2 accepted, 0 refused, 2 failed, 1 other file\n"
     assert found == said(lines, again(lines) + count, 4), "without permission"
+    make({"mute/d.gr": ROADS, "mute/d.ss": b"p aux sp ss 1\ns 9\n", "mute/e.ss": b"p aux sp ss 1\ns 9\n"})
+    os.chmod("mute", 0o311)
+    words = ["check", "--companions", "mute/d.gr", "mute/d.ss", "mute/e.ss"]
+    found = module(*words, preexec_fn=give_up_rights)
+    lines = "mute/d.gr: accepted sp\nmute/d.ss: 35 NotInGraph 9\nmute/e.ss: accepted ss, no graph\n"
+    assert (found.out.decode(), found.status) == (lines, 2), "a graph in a folder that cannot be listed"
+    os.chmod("mute", 0o755)
     os.chmod("set/a/b", 0o755)
 
 
@@ -311,158 +317,6 @@ def test_reports() -> None:
     for name, reason in {"/dev/full": "No space left on device", "no/x": "No such file or directory"}.items():
         found = module("check", "--junit", name, "set/a")
         assert (found.err, found.status) == (f"{name}: 33 Write ({reason})\n".encode(), 4), f"a report in {name}"
-
-
-# Texts that are no manifests, and why. H stands for a checksum.
-NO_MANIFESTS = {
-    "": "it lists no file",
-    "# form 2\n": "it lists no file",
-    "H  a\n\n": "no manifest has the line ''",
-    "H a\n": "no manifest has the line 'H a'",
-    "H  \n": "no manifest has the line 'H  '",
-    "# form 3\nH  a\n": "no manifest has the line '# form 3'",
-    "HH  a\n": "no manifest has the line 'HH  a'",
-    "\\H  a\\x\n": r"no manifest has the line '\\H  a\\x'",
-    "x  a\n": "no manifest has the line 'x  a'",
-}
-
-
-def sum_of(tested: str, text: bytes, form: str) -> str:
-    """Returns the canonical checksum of a text."""
-    return hashlib.sha256(run([tested, "canon", "--form", form, "-"], text).out).hexdigest()
-
-
-@BOTH
-def test_manifests(tested: str) -> None:
-    """Manifests: what they list, and what verifying them says."""
-    make_set()
-    accepted = {name: text for name, (text, what) in SET.items() if "accepted" in what}
-    refused = "set/bad.max:end: 19 MissingTerminal\nset/v.co:2: 5 WrongLine\n"
-    for form, head in [("1", ""), ("2", "# form 2\n")]:
-        lines = head + "".join(f"{sum_of(tested, text, form)}  {name}\n" for name, text in accepted.items())
-        found = module("manifest", "--form", form, "set")
-        assert found == said(
-            lines, f"{refused}11 listed, 2 refused, 0 failed, 4 other files\n", 2
-        ), f"a manifest of form {form}"
-        write("list", lines)
-        same = "".join(f"{name}: same\n" for name in accepted)
-        found = module("manifest", "--verify", "list")
-        assert found == said(same, "11 the same, 0 different, 0 refused, 0 failed\n", 0), f"form {form} verified"
-    changes = [("set/flow.min", FLOWS, ": differs", 1), ("set/s.ss", b"p\n", ":1: 4 UnknownProblem", 2)]
-    changes.append(("set/roads.gr.gz", b"", ": 31 Read (the compressed data end too early)", 4))
-    for name, text, what, status in changes:
-        write(name, text)
-        same = same.replace(f"{name}: same\n", f"{name}{what}\n")
-        found = module("manifest", "--verify", "list")
-        assert (found.out.decode(), found.status) == (same, status), f"a manifest with another {name}"
-    assert found.err == b"8 the same, 1 different, 1 refused, 1 failed\n", "its counts"
-    for other, reason in NO_MANIFESTS.items():
-        write("other", other.replace("H", "0" * 64))
-        wanted = f"other: 31 Read ({reason.replace('H', '0' * 64)})\n"
-        assert module("manifest", "--verify", "other") == said("", wanted, 4), f"{other!r} as a manifest"
-    assert module("manifest", "--verify", "missing") == said("", MISSING, 4), "no manifest"
-    for name, reason in {"/dev/full": "No space left on device", "no/x": "No such file or directory"}.items():
-        found = module("manifest", "--output", name, "set/a")
-        assert (found.err, found.status) == (f"{name}: 33 Write ({reason})\n".encode(), 4), f"a manifest in {name}"
-
-
-def test_kept_manifests() -> None:
-    """A file that fails takes no entry out of a manifest."""
-    make({f"set/{it}.gr": ROADS for it in "abc"})
-    module("manifest", "--output", "list", "set")
-    before = bytes_of("list")
-    os.rename("set/b.gr", "b.gr")
-    os.symlink("nowhere", "set/b.gr")
-    lines = "set/b.gr: 31 Read (No such file or directory)\nlist: not written, since it would lack what failed\n"
-    lines += "2 listed, 0 refused, 1 failed\n"
-    for target in ["list", "new"]:
-        wanted = lines.replace("list: ", f"{target}: ")
-        found = module("manifest", "--output", target, "set")
-        assert found == said("", wanted, 4), f"a manifest in {target} while a file fails"
-    assert (bytes_of("list"), os.path.exists("new"), hidden()) == (before, False, []), "the manifest"
-    os.replace("b.gr", "set/b.gr")
-    found = module("manifest", "--verify", "list", "-q", "set")
-    assert found == said("", "3 the same, 0 different, 0 refused, 0 failed\n", 0), "the manifest verified"
-    write("set/c.gr", b"x\n")
-    found = module("manifest", "--output", "list", "set")
-    lines = "set/c.gr:1: 1 BadLine\n2 listed, 1 refused, 0 failed\n"
-    assert found == said("", lines, 2), "a manifest beside a refused file"
-    assert len(bytes_of("list").splitlines()) == 2, "its entries"
-
-
-def made_before(*names: str, seconds: int = 3600) -> int:
-    """Makes it look as if files were written so long before, and returns that time in nanoseconds."""
-    then = time.time_ns() - seconds * 1_000_000_000
-    for it in names:
-        os.utime(it, ns=(then, then))
-    return then
-
-
-@BOTH
-def test_renewed() -> None:
-    """That `manifest --incremental` reads only what is new or was written, and what others make of its file."""
-    make({f"set/{it}.gr": ROADS for it in "abcd"})
-    old = made_before(*(f"set/{it}.gr" for it in "abc"))
-    made_before("set/d.gr", seconds=-3600)
-    begin = "manifest --incremental list set".split()
-    assert module(*begin) == said("", "4 listed, 0 refused, 0 failed\n", 0), "a first manifest"
-    marks = [f"# file {len(ROADS)} {old} sp"] * 3
-    assert [it for it in bytes_of("list").decode().splitlines() if it.startswith("#")] == marks, "its marks"
-    # If it is not read, a file may have become anything.
-    write("set/a.gr", b"x" * len(ROADS))
-    os.utime("set/a.gr", ns=(old, old))
-    write("set/b.gr", COSTS)
-    made_before("set/b.gr", seconds=-3600)
-    assert module(*begin) == said("", "4 listed, 0 refused, 0 failed, 2 not read again\n", 0), "a second one"
-    lines = [it.partition("  ") for it in bytes_of("list").decode().splitlines()]
-    sums = {name: checksum for checksum, _, name in lines if name}
-    roads, costs = dnorm.checksum(ROADS), dnorm.checksum(COSTS)
-    assert sums == {"set/a.gr": roads, "set/b.gr": costs, "set/c.gr": roads, "set/d.gr": roads}, "its sums"
-    assert bytes_of("list").count(b"# file") == 2, "marks of fresh files"
-    os.remove("set/c.gr")
-    assert module(*begin) == said("", "3 listed, 0 refused, 0 failed, 1 not read again\n", 0), "a file that is gone"
-    found = module("manifest", "--verify", "list", "-q")
-    assert (found.status, found.out.startswith(b"set/a.gr:1: 1 BadLine")) == (2, True), "verifying reads all files"
-    found = module(*begin, "--form", "2")
-    assert (found.status, b"not read again" in found.err) == (2, False), "another form is read"
-    for text in ["no manifest", "# file 1 2 net"]:
-        write("list", f"{text}\n")
-        wanted = f"list: 31 Read (no manifest has the line {text!r})\n"
-        assert module(*begin) == said("", wanted, 4), f"{text} to renew"
-
-
-@BOTH
-def test_known_files() -> None:
-    """That `check --incremental` reads only what is new or was written, and each companion beside its graph."""
-    make(
-        {f"set/{it}": ROADS for it in ("a.gr", "b.gr", "c.gr", "d.min", "fresh.gr")} | {"set/a.ss": SET["set/s.ss"][0]}
-    )
-    old = made_before(*(f"set/{it}" for it in ("a.gr", "a.ss", "b.gr", "c.gr", "d.min")))
-    made_before("set/fresh.gr", seconds=-3600)
-    module(*"manifest --incremental list set".split())
-    kept = bytes_of("list")
-    for it in ("a.gr", "b.gr", "fresh.gr"):
-        write(f"set/{it}", b"x" * len(ROADS))
-    os.utime("set/a.gr", ns=(old, old))
-    write("set/new.gr", ROADS)
-    refused = ["set/b.gr:1: 1 BadLine", "set/fresh.gr:1: 1 BadLine"]
-    odd = "set/d.min: accepted sp, its ending is that of min"
-    end = "5 accepted, 2 refused, 0 failed, 1 file of another kind than its ending, 4 not read again"
-    begin = "check --incremental list set".split()
-    found = module(*begin, "-q")
-    assert (found.out.decode().splitlines(), found.status) == ([refused[0], odd, refused[1]], 2), "known files"
-    assert found.err.decode().splitlines()[-1] == end, "known files at the end"
-    found = module(*begin, "--companions")
-    companion = "set/a.ss: accepted ss, graph not accepted: set/a.gr"
-    assert found.out.decode().splitlines()[1] == companion, "a companion of a known graph"
-    lines = module(*begin, "--strict").out.decode().splitlines()
-    assert "set/d.min: 31 Read (accepted sp, its ending is that of min)" in lines, f"strict: {lines}"
-    of = {it["name"]: it for it in map(json.loads, module(*begin, "--json").out.splitlines())}
-    assert [of[f"set/{it}.gr"]["forms"] for it in ("c", "new")] == [None, []], "forms of known files"
-    assert bytes_of("list") == kept, "the manifest"
-    os.remove("list")
-    wanted = "list: 31 Read (No such file or directory)\n"
-    assert module(*begin) == said("", wanted, 4), "a check by no manifest"
 
 
 def slowly_squared(number: int) -> int:
@@ -606,9 +460,9 @@ def test_signals() -> None:
     slow = fake("slow", "echo $$ >> started; exec sleep 60")
     names = [f"{it}.gr" for it in range(9)]
     make(dict.fromkeys(names, ROADS))
-    write("list", "".join(f"{'0' * 64}  {it}\n" for it in names))
+    write("list", "# form 1\n" + "".join(f"{'0' * 64}  {it}\n" for it in names))
     for words in RUNS:
-        for number in [signal.SIGINT, signal.SIGTERM, signal.SIGHUP]:
+        for number in [signal.SIGINT, signal.SIGTERM, signal.SIGHUP, signal.SIGQUIT]:
             write("started", b"")
             write("kept", b"old")
             paths = names if "--verify" not in words else []
@@ -707,7 +561,7 @@ def by_shell(text: str) -> Answer:
 def test_outputs(tested: str, words: str) -> None:
     """Streams that are closed, full or broken."""
     make_set()
-    write("list", f"{sum_of(tested, SET['set/s.ss'][0], '1')}  set/s.ss\n")
+    module("manifest", "--output", "list", "set/s.ss")
     for to, reason in [("> /dev/full", " (No space left on device)"), (">&-", "")]:
         assert by_shell(f"dnorm {words} {to}") == said("", f"out: 33 Write{reason}\n", 4), to
     reading, writing = os.pipe()

@@ -18,16 +18,14 @@ from collection import (
     NO_GRAPH,
     OTHER_KIND,
     OTHERS,
-    POINTER,
-    REFUSED_GRAPH,
     make_collection,
     make_pipes,
 )
 from known import ROADS
-from needs import leave_out
+from needs import need
 from shared import ROOT, Answer, run, text_of, write
 from test_calls import BOTH, READS
-from test_ci import FIELD, HOOKS, STEP, WORKFLOW
+from test_ci import STEP, WORKFLOW, fields_of_hook
 from test_folders import make, module
 
 pytestmark = READS
@@ -48,6 +46,10 @@ def remarked(remarks: dict[str, str], before: str = ": accepted [a-z0-9]+, ") ->
     return {name: f"{before}{it}$" for name, it in remarks.items() if it}
 
 
+# What follows the name of a file with a remark, if the guard is strict.
+STRICT = r": 31 Read \(accepted [a-z0-9]+, "
+
+
 @BOTH
 def test_by_package() -> None:
     """Tests `python3 -m dnorm check`, also with links to folders, with --strict and with names that are given."""
@@ -65,7 +67,7 @@ def test_by_package() -> None:
     assert len(remarks) == COUNT, "accepted files"
     found = module("check", "--strict", "--companions", "-q", "coll")
     others = {it: NO for it in [*OTHERS, "coll/linked"]}
-    strict = remarked(remarks, r": 31 Read \(accepted [a-z0-9]+, ")
+    strict = remarked(remarks, STRICT)
     strict = {name: it.replace("$", r"\)$") for name, it in strict.items()}
     are_named("--strict", found.out.decode().splitlines(), {**faults, **strict, **others})
     names = "\0".join([*remarks, *FAULTS]).encode()
@@ -79,10 +81,11 @@ class Repository:
     def __init__(self, tested: str) -> None:
         os.mkdir("bin")
         os.symlink(os.path.realpath(tested), "bin/dnorm")
+        os.symlink(f"{ROOT}/dnorm-files", "bin/dnorm-files")
         who = {f"GIT_{one}_{it}": "a@example.org" for one in ["AUTHOR", "COMMITTER"] for it in ["NAME", "EMAIL"]}
         alone = {"GIT_CONFIG_GLOBAL": "/dev/null", "GIT_CONFIG_NOSYSTEM": "1", "LC_ALL": "C.UTF-8"}
         self.environment = {**os.environ, **who, **alone, "PATH": f"{os.getcwd()}/bin:{os.environ['PATH']}"}
-        del self.environment["DNORM"]
+        self.environment["DNORM"] = os.path.abspath("bin/dnorm")
         self.git("init", "-q", "-b", "main")
         write("first.txt", "first")
         self.git("add", "first.txt")
@@ -99,10 +102,10 @@ class Repository:
 
 def test_by_git(tested: str) -> None:
     """The hook for git: it refuses a commit with these files, and a merge that brings them."""
-    if not shutil.which("git"):
-        leave_out("git")
+    need("git")
     remarks = make_collection()
-    shutil.rmtree("coll/.git")
+    for it in ["coll/.git", "coll/inst/CVS"]:
+        shutil.rmtree(it)
     repository = Repository(tested)
     repository.git("switch", "-q", "-c", "branch")
     repository.git("add", "coll")
@@ -111,61 +114,56 @@ def test_by_git(tested: str) -> None:
     for it in ["pre-commit", "pre-merge-commit"]:
         shutil.copy(f"{ROOT}/share/git/pre-commit", f".git/hooks/{it}")
     lines, status = repository.lines("merge", "--no-ff", "-q", "-m", "merged", "branch")
-    told = {**FAULTS, **remarks_of_hook(remarks)}
-    # Of a companion of another kind there is a line more.
-    more = ("coll/kind-co.ss: no graph", "coll/kind-sp.co: no graph")
-    are_named("a merge", lines, told, ("Not committing merge; ", "    line ", *more))
+    told = {**FAULTS, **remarked(remarks)}
+    are_named("a merge", lines, told, (*BESIDES, "Not committing merge; "))
     assert (status, repository.git("log", "--format=%s").out) == (1, b"first\n"), "a merge"
     lines, status = repository.lines("commit", "-q", "-m", "a collection")
-    are_named("a commit", lines, told, ("    line ", *more))
-    assert "    line 2: a 1 3 5" in lines, "a commit shows lines"
+    are_named("a commit", lines, told, BESIDES)
+    assert {"    line 2: a 1 3 5", f"    {POINTER_HINT}"} <= {*lines}, "a commit shows causes"
     assert (status, repository.git("log", "--format=%s").out) == (1, b"first\n"), "a commit"
     repository.git("rm", "-q", "--cached", "--", *FAULTS)
     repository.git("config", "dnorm.strict", "true")
     lines, status = repository.lines("commit", "-q", "-m", "the others")
-    told = remarks_of_hook({name: it for name, it in remarks.items() if not it.startswith(REFUSED_GRAPH)})
-    told["coll/worse.co"] = ": no graph$"
-    are_named("a strict commit of the others", lines, told, more)
+    remarks["coll/worse.co"] = NO_GRAPH
+    strict = {name: it.replace("$", r"\)$") for name, it in remarked(remarks, STRICT).items()}
+    are_named("a strict commit of the others", lines, strict, BESIDES)
     assert status == 1, "its status"
     repository.git("config", "dnorm.strict", "false")
     lines, status = repository.lines("commit", "-q", "-m", "the others")
-    are_named("a commit of the others", lines, told, more)
+    are_named("a commit of the others", lines, remarked(remarks), BESIDES)
     assert status == 0, "its status"
     later_links(repository)
     by_variable(repository)
     later_pairs(repository)
 
 
-def remarks_of_hook(remarks: dict[str, str]) -> dict[str, str]:
-    """Returns what the hook for git says of the files with remarks: of both in two lines."""
-    found = {}
-    for name, it in remarks.items():
-        if it.startswith(REFUSED_GRAPH):
-            found[name] = ": not checked with its graph coll/worse.gr:2: 13 NodeOutOfRange$"
-        elif it == NO_GRAPH:
-            found[name] = ": no graph$"
-        elif it:
-            found[name] = f": accepted [a-z]+, {OTHER_KIND}$"
-    return found
+# What the hook for git prints besides: causes and the count.
+BESIDES = ("    ", *(f"{it} accepted, " for it in range(COUNT + 1)))
+POINTER_HINT = "The file is a pointer of Git LFS, and the text is missing: git lfs pull"
 
 
 def later_links(repository: Repository) -> None:
-    """Links that lead out of what is committed, and to folders."""
+    """Links that lead out of what is committed, to folders, and to git-annex."""
     make({"below/x.gr": ROADS, "untracked": ROADS, f"{os.getcwd()}-outside": ROADS})
-    links = {"a.gr": "below/x.gr", "b.gr": "untracked", "c.gr": f"{os.getcwd()}-outside", "d.gr": "below"}
+    lost = ".git/annex/objects/AB/cd/SHA256E-s12--0.gr/SHA256E-s12--0.gr"
+    links = {"a.gr": "below/x.gr", "b.gr": "untracked", "c.gr": f"{os.getcwd()}-outside", "d.gr": "below", "e.gr": lost}
     for name, to in links.items():
         os.symlink(to, name)
     repository.git("add", "below", *links)
     lines, status = repository.lines("commit", "-q", "-m", "links")
-    assert (lines, status) == (["b.gr: 31 Read (No such file or directory)"], 1), "a commit of links"
-    repository.git("rm", "-q", "--cached", "b.gr")
+    wanted = ["b.gr: 31 Read (No such file or directory)", "e.gr: 31 Read (No such file or directory)"]
+    wanted += ["    The file is a pointer of git-annex, and the text is missing: git annex get"]
+    assert (lines, status) == ([*wanted, "3 accepted, 0 refused, 2 failed"], 1), "a commit of links"
+    repository.git("rm", "-q", "--cached", "b.gr", "e.gr")
     assert repository.lines("commit", "-q", "-m", "links") == ([], 0), "a commit of links"
     repository.git("rm", "-q", "coll/good.gr.gz")
-    orphans = ["coll/good.co: no graph", "coll/good.ss: no graph"]
+    orphans = ["coll/good.co: accepted co, no graph", "coll/good.ss: accepted ss, no graph"]
+    orphans.append("2 accepted, 0 refused, 0 failed, 2 companions without a graph")
     assert repository.lines("commit", "-q", "-m", "x") == (orphans, 0), "a graph that is removed"
     repository.git("reset", "-q", "--hard", "HEAD~1")
     repository.git("mv", "coll/good.gr.gz", "coll/better.gr.gz")
-    assert repository.lines("commit", "-q", "-m", "x") == (orphans, 0), "a graph that is renamed"
+    renamed = [*orphans[:2], orphans[2].replace("2 accepted", "3 accepted")]
+    assert repository.lines("commit", "-q", "-m", "x") == (renamed, 0), "a graph that is renamed"
     os.remove(f"{os.getcwd()}-outside")
     repository.git("reset", "-q", "--hard", "HEAD~1")
 
@@ -176,33 +174,36 @@ def by_variable(repository: Repository) -> None:
     repository.git("add", "new.gr")
     os.mkdir("a b")
     shutil.copy("bin/dnorm", "a b/dnorm")
-    refusal = ["new.gr:2: 13 NodeOutOfRange", "    line 2: a 1 3 5"]
-    missing = ["none: there is no such program; $DNORM may name it"]
+    refusal = ["new.gr:2: 13 NodeOutOfRange", "    line 2: a 1 3 5", "    NODES 2: nodes count from 1"]
+    refusal.append("0 accepted, 1 refused, 0 failed")
+    missing = ["none: cannot be run (there is no such program, and $DNORM names it)"]
     rows = {f"{os.getcwd()}/a b/dnorm": refusal, f"env A=b {os.getcwd()}/bin/dnorm": refusal, "none": missing}
+    rows["a b/dnorm"] = refusal
     for named, lines in rows.items():
         repository.environment["DNORM"] = named
         assert repository.lines("commit", "-q", "-m", "x") == (lines, 1), f"$DNORM {named}"
-    del repository.environment["DNORM"]
+    repository.environment["DNORM"] = os.path.abspath("bin/dnorm")
     repository.git("reset", "-q", "--hard")
 
 
 def later_pairs(repository: Repository) -> None:
     """A graph or a companion is checked against what is committed before; and texts that git has lost."""
-    for name, text, line in [
+    count = "1 accepted, 1 refused, 0 failed"
+    for name, text, lines in [
         (
             "coll/good.gr.gz",
             gzip.compress(b"p sp 29 0\n"),
-            "coll/good.ss: 35 NotInGraph 30 (its graph is coll/good.gr.gz)",
+            ["coll/good.ss: 35 NotInGraph 30", "    line 2 names it: s 30", f"2 {count[2:]}"],
         ),
         (
             "coll/good.p2p",
             b"p aux sp p2p 1\nq 31 1\n",
-            "coll/good.p2p: 35 NotInGraph 31 (its graph is coll/good.gr.gz)",
+            ["coll/good.p2p: 35 NotInGraph 31", "    line 2 names it: q 31 1", f"0 {count[2:]}"],
         ),
     ]:
         write(name, text)
         repository.git("add", "--", name)
-        assert repository.lines("commit", "-q", "-m", "x") == ([line], 1), f"a commit of {name}"
+        assert repository.lines("commit", "-q", "-m", "x") == (lines, 1), f"a commit of {name}"
         repository.git("reset", "-q", "--hard")
     make({"old/a.gr": BAD, "old/b.gr.gz": b"not compressed"})
     repository.git("add", "old")
@@ -210,32 +211,31 @@ def later_pairs(repository: Repository) -> None:
     make({"old/a.ss": b"p aux sp ss 1\ns 9\n", "old/b.co": b"p aux sp co 0\n"})
     repository.git("add", "old")
     lines, status = repository.lines("commit", "-q", "-m", "their companions")
-    told = [
-        "old/a.ss: not checked with its graph old/a.gr:2: 13 NodeOutOfRange",
-        "old/b.co: not checked with its graph old/b.gr.gz: 31 Read (gzip: stdin: not in gzip format)",
-    ]
+    told = ["old/a.ss: accepted ss, graph not accepted: old/a.gr"]
+    told += ["old/b.co: accepted co, graph not accepted: old/b.gr.gz"]
+    told += ["2 accepted, 0 refused, 0 failed, 2 companions of graphs that are not accepted"]
     assert (lines, status) == (told, 0), "companions of refused graphs"
     repository.git("config", "filter.lfs.clean", "cat > /dev/null; cat pointer")
     repository.git("config", "filter.lfs.smudge", "echo 'the object is missing' >&2; false")
     repository.git("config", "filter.lfs.required", "true")
     write(".gitattributes", "lost.gr filter=lfs\n")
-    write("lost.gr", ROADS)
-    write("pointer", b"elsewhere\n")
-    repository.git("add", ".gitattributes", "lost.gr")
-    lost = "fatal: lost.gr: smudge filter lfs failed"
-    wanted = ([f"lost.gr: git could not read it ({lost})"], 1)
+    make({"lost.gr": ROADS, "kept.gr": ROADS, "pointer": b"elsewhere\n"})
+    repository.git("add", ".gitattributes", "lost.gr", "kept.gr")
+    lost = "lost.gr: 31 Read (git cannot read it: fatal: lost.gr: smudge filter lfs failed)"
+    wanted = ([lost, "1 accepted, 0 refused, 1 failed"], 1)
     assert repository.lines("commit", "-q", "-m", "x") == wanted, "a commit of a text that is lost"
-    write("pointer", POINTER)
-    repository.git("add", "--renormalize", "lost.gr")
-    wanted = (["lost.gr: its text in Git LFS is missing (git lfs pull)"], 1)
-    assert repository.lines("commit", "-q", "-m", "x") == wanted, "a commit of an object that is missing"
 
 
 def test_by_pre_commit(tested: str) -> None:
     """The hook for pre-commit, called as pre-commit calls it: with the files that match its expressions."""
     remarks = make_collection()
-    fields = {name: value.strip("'") for name, value in FIELD.findall(text_of(HOOKS))}
-    names = [os.path.join(at, it) for at, _, below in os.walk("coll") for it in below if "/.git" not in at]
+    fields = fields_of_hook()
+    names = [
+        os.path.join(at, it)
+        for at, _, below in os.walk("coll")
+        for it in below
+        if "/.git" not in at and "inst/CVS" not in at
+    ]
     chosen = [it for it in names if re.search(fields["files"], it) and not re.search(fields["exclude"], it)]
     assert sorted(set(names) - set(chosen)) == sorted(OTHERS), "files that are not chosen"
     environment = {it: value for it, value in os.environ.items() if it != "PYTHONPATH"}

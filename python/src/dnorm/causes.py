@@ -2,6 +2,7 @@
 
 from __future__ import annotations
 
+import contextlib
 import os
 import re
 from collections.abc import Callable, Iterator
@@ -38,8 +39,17 @@ MARKS = [
     (b"\xff\xfe", "The file is in UTF-16", "iconv -f UTF-16 -t UTF-8 < {}"),
     (b"\xfe\xff", "The file is in UTF-16", "iconv -f UTF-16 -t UTF-8 < {}"),
 ]
+# What the files are that have such a head in place of a text, in small letters, and how to get the text.
 LFS = b"version https://git-lfs"
 POINTER = "The file is a pointer of Git LFS, and the text is missing: git lfs pull"
+ANNEX = "annex/objects/"
+ANNEXED = "The file is a pointer of git-annex, and the text is missing: git annex get"
+PAGE = "The file is a page of the web, as a server sends for an error or a login: get the file again"
+HEADS = [(LFS, POINTER), (f"/{ANNEX}".encode(), ANNEXED), (b"<!doctype", PAGE), (b"<html", PAGE), (b"<?xml", PAGE)]
+# The lines that git puts around the two sides of a conflict.
+CONFLICT = re.compile(rb"(?:<<<<<<<|\|\|\|\|\|\|\||>>>>>>>) .*|=======\r?")
+# UTF-16 without a mark: characters of ASCII, each beside a NUL.
+WIDE = [(re.compile(rb"(?:[\t\n\r -~]\0){2,}"), "LE"), (re.compile(rb"(?:\0[\t\n\r -~]){2,}"), "BE")]
 # The marks of the compressions that endings name.
 PACKED = {".gz": b"\x1f\x8b", ".bz2": b"BZh", ".xz": b"\xfd7zX", ".zst": b"\x28\xb5\x2f\xfd"}
 # A line that ends in bytes that other systems put at the end of a text.
@@ -165,23 +175,35 @@ def hints_of_bytes(head: bytes, refused: bytes | None, name: str | None) -> Iter
         if head.startswith(mark):
             yield hint(what, command)
             return
-    if head.startswith(LFS):
-        yield POINTER
+    for order in (order for pattern, order in WIDE if pattern.match(head)):
+        yield hint("The file is in UTF-16 without a mark", f"iconv -f UTF-16{order} -t UTF-8 < {{}}")
+        return
+    found = next((what for begin, what in HEADS if head.lstrip().lower().startswith(begin)), None)
+    if found:
+        yield found
     elif not head:
         yield "The file is empty"
+    elif refused and CONFLICT.fullmatch(refused):
+        yield "The line is of a conflict that git could not merge: keep one side, and remove such lines"
     else:
-        if b"\r" in head and b"\n" not in head:
-            yield hint("CR alone ends lines", r"tr '\r' '\n' < {}")
-        if refused and len(refused) < KEPT and ENDED.fullmatch(refused):
-            yield hint("The line ends in NUL or Ctrl-Z", r"tr -d '\0\032' < {}")
-        elif refused and b"\0" in refused:
-            yield "The line has NUL within, where data may be lost: get the file again"
+        yield from hints_of_ends(head, refused, hint)
+
+
+def hints_of_ends(head: bytes, refused: bytes | None, hint: Callable[[str, str], str]) -> Iterator[str]:
+    """Yields what the ends of lines mean, and NUL within the refused line."""
+    if b"\r" in head and b"\n" not in head:
+        yield hint("CR alone ends lines", r"tr '\r' '\n' < {}")
+    if refused and len(refused) < KEPT and ENDED.fullmatch(refused):
+        yield hint("The line ends in NUL or Ctrl-Z", r"tr -d '\0\032' < {}")
+    elif refused and b"\0" in refused:
+        yield "The line has NUL within, where data may be lost: get the file again"
 
 
 def hint_of_compressed(head: bytes, name: str) -> str:
     """Returns what the first bytes of a file mean that cannot be decompressed as its name says."""
-    if head.startswith(LFS):
-        return POINTER
+    found = next((what for begin, what in HEADS if head.lstrip().lower().startswith(begin)), None)
+    if found:
+        return found
     if not head:
         return "The file is empty"
     if head.startswith(PACKED.get(ending_of(name), b"\0")):
@@ -192,6 +214,14 @@ def hint_of_compressed(head: bytes, name: str) -> str:
     if re.fullmatch(rb"[\t\n\r -~]+", head):
         return f"The file is not compressed: dnorm check - < {quoted(name)}"
     return "The file is not compressed as its name says"
+
+
+def hint_of_missing(path: str | os.PathLike[str] | os.PathLike[bytes]) -> str | None:
+    """Returns why a file may be missing: what a link leads to that leads nowhere."""
+    with contextlib.suppress(OSError, ValueError):
+        if ANNEX in os.readlink(os.fsdecode(path)) and not os.path.exists(path):
+            return ANNEXED
+    return None
 
 
 def hints_of_repeated(lines: Iterator[bytes], words: list[bytes]) -> Iterator[str]:

@@ -13,7 +13,7 @@ from .errors import Write
 from .files import progress, reason_of, write_all
 
 # The signals that end a run.
-SIGNALS = (signal.SIGINT, signal.SIGTERM, signal.SIGHUP)
+SIGNALS = (signal.SIGINT, signal.SIGTERM, signal.SIGHUP, signal.SIGQUIT)
 # The columns of a full progress bar, and the time between two drawings in seconds.
 BAR, PAUSE = 30, 0.1
 

@@ -12,7 +12,7 @@ import threading
 from collections.abc import Callable, Iterator
 from typing import BinaryIO, Optional, Protocol, Union
 
-from .causes import SHOWN, Cause, cause_of, hint_of_compressed
+from .causes import SHOWN, Cause, cause_of, hint_of_compressed, hint_of_missing
 from .compressed import SIZE, Compressed, Stream, compressor_of, decompressor_of, pieces
 from .errors import DnormError, Memory, Read, Refused, Write
 from .instances import Instance
@@ -210,6 +210,8 @@ class Text:
                 stack.callback(progress.end, self._opened)
             self.text = self._begun()
         except Read as error:
+            if isinstance(file, (str, os.PathLike)):
+                error = Read(error.name, error.reason, error.hint or hint_of_missing(file))
             # The program has to judge an earlier text first.
             self.text = failed(error)
         self.is_file = isinstance(self.text, io.FileIO)

@@ -17,6 +17,9 @@ COMPRESSIONS = (".gz", ".bz2", ".xz", ".zst")
 OTHERS = {".z": "compress", ".lz4": "lz4", ".zip": "zip", ".br": "brotli", ".7z": "7-Zip", ".lzma": "lzma"}
 OTHERS |= {".lz": "lzip", ".lzo": "lzop", ".tar": "tar", ".rar": "rar"}
 OTHERS |= {it: it for it in (".gzip", ".bzip2", ".bz", ".zstd", ".tgz", ".tbz", ".tbz2", ".txz", ".tzst")}
+# What people put behind the ending of a file that they keep beside a newer one, or cut into parts: a number, or such a
+# word. Other letters make another ending, as in .grid.
+KEPT = r"(?:[0-9]|bak|copy|new|old|orig|save|tmp)[0-9]*(?![a-z0-9])"
 # Minified pages of the web have the ending of a `min` text before their own.
 MINIFIED = re.compile(r"\.min\.(?:[cm]?js|css|html?|svg|json)(?:\.map)?(?:\.gz|\.br)?")
 
@@ -56,16 +59,16 @@ def unknown_compression(name: str) -> str:
 
 
 @functools.lru_cache(maxsize=None)
-def signs_after(endings: tuple[str, ...]) -> re.Pattern[str]:
-    """Returns an expression for the names that go on behind an ending by a sign, as `~`, to their end or up to the
-    ending of a compression."""
+def more_after(endings: tuple[str, ...]) -> re.Pattern[str]:
+    """Returns an expression for the names that go on behind an ending by a sign, as `~`, by a number or by a word such
+    as `old`, to their end or up to the ending of a compression."""
     ends, packed = ("|".join(map(re.escape, it)) for it in (endings, COMPRESSIONS))
-    return re.compile(rf"({ends.lower()})[^a-z0-9.][^.]*(?:{packed})?\Z")
+    return re.compile(rf"({ends.lower()})(?:[^a-z0-9.]|{KEPT})[^.]*(?:{packed})?\Z")
 
 
 def misnamed_text(name: str, endings: Sequence[str] = ENDINGS) -> str:
     """Returns why a file that is found is no text, although its name promises one; or nothing."""
-    found = signs_after(tuple(endings)).search(os.path.basename(name).lower())
+    found = more_after(tuple(endings)).search(os.path.basename(name).lower())
     return unknown_text(name, endings) or (f"its name goes on behind {found[1]}" if found else "")
 
 

@@ -26,14 +26,21 @@ WITH_COMPANIONS = (".gr", ".sp")
 @dataclass(frozen=True)
 class Accepted:
     """What a check of an accepted file found: its `kind`; the `forms` in which it is canonical, if these were asked
-    for; which graphs of its name a companion `fits`, if that was checked, and which of them are `not_accepted`; and the
-    kind that the ending of its name is `named` for, if that is another one."""
+    for; which graphs of its name a companion `fits`, if that was checked, and which of them are `not_accepted`; the
+    kind that the ending of its name is `named` for, if that is another one; and whether the file was not read, since it
+    `is_unchanged` from when it was accepted."""
 
     kind: str
     forms: Optional[tuple[int, ...]] = None
     fits: Optional[tuple[str, ...]] = None
     not_accepted: tuple[str, ...] = ()
     named: Optional[str] = None
+    is_unchanged: bool = False
+
+    @property
+    def status(self) -> str:
+        """The word for the file."""
+        return "unchanged" if self.is_unchanged else "accepted"
 
     @property
     def is_alone(self) -> bool:
@@ -55,11 +62,13 @@ class Partners:
     def __init__(self, names: Iterable[str]) -> None:
         self.graphs: dict[str, list[str]] = {}
         self.companions: dict[str, list[str]] = {}
-        for folder in sorted({os.path.dirname(it) for it in names}):
-            # A folder that cannot be listed hides the partners of its files, and the files can still be read.
+        found = set(names)
+        for folder in {os.path.dirname(it) for it in found}:
+            # A folder that cannot be listed hides the partners of its files, except for those that are named.
             with contextlib.suppress(OSError):
-                for it in sorted(os.listdir(folder or ".")):
-                    self._add(os.path.join(folder, it))
+                found.update(os.path.join(folder, it) for it in os.listdir(folder or "."))
+        for it in sorted(found):
+            self._add(it)
 
     def _add(self, name: str) -> None:
         stem, ending = parts_of(name)
@@ -117,7 +126,7 @@ def forms_of(library: Library, held: Instance, text: SummedText) -> tuple[int, .
 class Checker:
     """Checks files: by this library, or else by the program. If they are asked for, it says the forms in which a text
     is canonical. With partners, companions are checked beside their graphs. Of other files, those whose kind is known
-    are not read: `unread` has their names. If it is strict, a file with a remark has an error."""
+    are not read. If it is strict, a file with a remark has an error."""
 
     def __init__(
         self,
@@ -132,15 +141,13 @@ class Checker:
     ) -> None:
         self.program, self.timeout, self.partners, self.is_strict = program, timeout, partners, is_strict
         self.library, self.known_kind, self.has_forms = library, known_kind, has_forms
-        self.unread: set[str] = set()
 
     def check(self, name: str) -> Accepted:
         """Checks a file."""
         ending = parts_of(name)[1]
         graphs = self.partners.graphs_of(name) if self.partners and ending in COMPANIONS else None
         if graphs is None and (kind := self.known_kind(name)):
-            self.unread.add(name)
-            found = Accepted(kind)
+            found = Accepted(kind, is_unchanged=True)
         elif self.library:
             found = self._by_library(self.library, name, graphs)
         else:
@@ -149,7 +156,7 @@ class Checker:
         if expected != found.kind:
             found = replace(found, named=expected)
         if self.is_strict and found.remarks:
-            raise Read(name, f"accepted {found.kind}, {', '.join(found.remarks)}")
+            raise Read(name, f"{found.status} {found.kind}, {', '.join(found.remarks)}")
         return found
 
     def _by_library(self, library: Library, name: str, graphs: Sequence[str] | None) -> Accepted:

@@ -14,8 +14,8 @@ from ..files import reason_of
 from ..names import is_text, misnamed_text
 from ..program import children
 
-# What version control keeps for itself: branches can have names like texts.
-HIDDEN = {".git", ".hg", ".svn", ".bzr", ".jj", "CVS", "_darcs"}
+# What version control keeps for itself: branches can have names like texts. CVS has a list in each of its folders.
+HIDDEN, CVS, CVS_LIST = {".git", ".hg", ".svn", ".bzr", ".jj", "_darcs"}, "CVS", "Entries"
 
 # The longest wait of a thread, in seconds, and how many tasks begin before the result of the first one is taken.
 PAUSE, MOST = 0.1, 10_000
@@ -28,11 +28,13 @@ Result = TypeVar("Result")
 
 
 class Found(NamedTuple):
-    """The files that paths name, each with the error of a path that cannot be searched; and the other files below these
-    paths, each with the reason why it is not looked at. Both are in the order of the names."""
+    """The files that paths name, each with the error of a path that cannot be searched; the other files below these
+    paths, each with the reason why it is not looked at, both in the order of the names; and how many files and folders
+    were left out, since a pattern excludes them."""
 
     files: dict[str, DnormError | None]
     others: dict[str, str]
+    excluded: int = 0
 
 
 def find(paths: Iterable[str], endings: Sequence[str], excluded: Sequence[str] = ()) -> Found:
@@ -40,17 +42,18 @@ def find(paths: Iterable[str], endings: Sequence[str], excluded: Sequence[str] =
     endings, in small letters or capitals, compressed or not, except what matches an excluded pattern. A folder that
     cannot be read, or that has no such file, has an error, and so has a file in whose name something else follows such
     an ending, and what is no file, as a pipe."""
-    found = Found({}, {})
+    found, left_out = Found({}, {}), 0
     for path in paths:
         if os.path.isdir(path):
             below = Search(path, endings, excluded).found()
+            left_out += below.excluded
             missing = Read(path, f"no file in it ends in {' '.join(endings)}; --ending names other endings")
             found.files.update(below.files or {path: missing})
             found.others.update(below.others)
         else:
             found.files[path] = error_of_name(path, endings)
     others = {name: reason for name, reason in found.others.items() if name not in found.files}
-    return Found(in_order_of_names(found.files), in_order_of_names(others))
+    return Found(in_order_of_names(found.files), in_order_of_names(others), left_out)
 
 
 def error_of_name(path: str, endings: Sequence[str]) -> DnormError | None:
@@ -74,7 +77,7 @@ class Search:
     """A search below a folder."""
 
     def __init__(self, folder: str, endings: Sequence[str], excluded: Sequence[str]) -> None:
-        self.folder, self.endings, self.excluded = folder, endings, excluded
+        self.folder, self.endings, self.excluded, self.left_out = folder, endings, excluded, 0
 
     def found(self) -> Found:
         """Returns the files and the other files below the folder. Links to files count as files, even if they lead
@@ -93,14 +96,16 @@ class Search:
         for error in errors:
             name = os.fsdecode(error.filename)
             found.files[name] = Read(name, reason_of(error))
-        return found
+        return found._replace(excluded=self.left_out)
 
     def is_wanted(self, at: str, name: str) -> bool:
         """Whether a file or folder of this name is neither excluded nor of version control."""
-        if name in HIDDEN:
+        if name in HIDDEN or name == CVS and os.path.isfile(os.path.join(at, name, CVS_LIST)):
             return False
         names = (name, os.path.relpath(os.path.join(at, name), self.folder)) if self.excluded else ()
-        return not any(fnmatchcase(it, pattern) for it in names for pattern in self.excluded)
+        is_excluded = any(fnmatchcase(it, pattern) for it in names for pattern in self.excluded)
+        self.left_out += is_excluded
+        return not is_excluded
 
 
 def outcome(task: Callable[[], Result], name: str) -> Result | DnormError:

@@ -123,6 +123,8 @@ def add_outputs(one: argparse.ArgumentParser, task: str) -> None:
     if task == "check":
         about = "read only files that are new or were written since 'manifest --incremental FILE'"
         add("--incremental", metavar="FILE", help=about)
+        about = "check what git has staged and COMMIT has otherwise, by default the last one; print faults only"
+        add("--staged", nargs="?", const="", metavar="COMMIT", help=about)
 
 
 def add_comparison(one: argparse.ArgumentParser) -> None:
@@ -169,8 +171,11 @@ def check_files(found: argparse.Namespace, error: Callable[[str], NoReturn]) -> 
     if "-" in found.path and found.files0_from == "-":
         error("standard input is named twice")
     has_paths = bool(found.path) or found.files0_from is not None
-    if not has_paths and getattr(found, "verify", None) is None:
+    is_staged = getattr(found, "staged", None) is not None
+    if not has_paths and getattr(found, "verify", None) is None and not is_staged:
         error("at least one path is required")
+    if is_staged and (has_paths or found.incremental is not None or found.quiet):
+        error("--staged goes without paths, --incremental and --quiet")
     if found.task == "check":
         if found.json and found.format not in (None, "json"):
             error("--json goes without another --output-format")

@@ -1,12 +1,14 @@
-"""Manifests: the canonical checksums of files, one on a line. With the sizes, times and kinds of the files, a manifest
-also says which of them need not be read again."""
+"""Manifests: the canonical checksums of files, one on a line. With the marks of the files, a manifest also says which
+of them need not be read again."""
 
 from __future__ import annotations
 
+import hashlib
 import os
 import re
 import time
-from collections.abc import Callable, Iterable
+from collections.abc import Callable, Iterable, Iterator
+from dataclasses import dataclass, field
 from typing import NamedTuple, Optional
 
 from ..errors import Read
@@ -14,20 +16,28 @@ from ..files import failing
 from ..names import KINDS
 from .reports import line_with, name_in
 
-# The line that says the form of the checksums after it. Without one, the form is 1.
-FORM = re.compile(r"# form ([12])")
-# The line with the size, the time and the kind of the file of the next line.
-MARK = re.compile(rf"# file ([0-9]+) ([0-9]+) ({'|'.join(dict.fromkeys(KINDS.values()))})")
+# The line that says the form of the checksums, and how many files the manifest lists. Earlier versions wrote no number,
+# and for form 1 no line.
+HEAD = re.compile(r"# form ([12])(?:, ([0-9]+) files?)?")
+# The line that earlier versions wrote before the line of a file, with its size, its time and its kind.
+EARLIER = re.compile(rf"# file -?[0-9]+ -?[0-9]+ ({'|'.join(dict.fromkeys(KINDS.values()))})")
+ENTRY = re.compile(r"(\\?)([0-9a-f]{64})  (.+)", re.S)
+# What follows the name of a file, behind a tab: its kind, its mark, and a sum of the line up to there.
+MARKED = re.compile(rf"(.*)\t# ({'|'.join(dict.fromkeys(KINDS.values()))}) ((?:-?[0-9]+ ){{5}})([0-9a-f]{{16}})", re.S)
 # A file that was written so few nanoseconds before may be written again without another time.
 FRESH = 2_000_000_000
-ENTRY = re.compile(r"(\\?)([0-9a-f]{64})  (.+)", re.S)
 
 
 class Mark(NamedTuple):
-    """The size of a file, and the time when it was written, in nanoseconds."""
+    """What differs once a file is written or another one has its name: its size; when it was written, and when it was
+    last changed at all, in nanoseconds; and its number and its device. The time of change is the system's: no program
+    sets it back, as `touch -d` and `cp -p` do with the time of writing."""
 
     size: int
-    time: int
+    written: int
+    changed: int
+    number: int
+    device: int
 
 
 class Entry(NamedTuple):
@@ -48,30 +58,25 @@ class Summed(NamedTuple):
     checksum: str
 
 
-class State(NamedTuple):
-    """The mark of a file, and the device and the number of the file, which links to it share."""
-
-    mark: Mark
-    identity: tuple[int, int]
-
-
-def state_of(name: str) -> State:
-    """Returns the state of a file. Raises OSError if there is no such file."""
-    found = os.stat(name)
-    return State(Mark(found.st_size, found.st_mtime_ns), (found.st_dev, found.st_ino))
+def mark_of(name: str) -> Mark:
+    """Returns the mark of a file, or of the one that a link leads to. Raises OSError if there is no such file."""
+    it = os.stat(name)
+    return Mark(it.st_size, it.st_mtime_ns, it.st_ctime_ns, it.st_ino, it.st_dev)
 
 
 def entry_of(name: str, form: int, read: Callable[[], Summed], known: Entry | None) -> Entry:
     """Returns the entry of a file: the one that is known, if the file has its mark and this form, or else by what is
     read. The new one has a mark if the file was not written meanwhile, or just before."""
     with failing(Read, name):
-        before = state_of(name)
-    if known and (known.mark, known.form) == (before.mark, form):
+        before = mark_of(name)
+    if known and (known.mark, known.form) == (before, form):
         return known
     found = read()
     with failing(Read, name):
-        is_sure = state_of(name) == before and before.mark.time < time.time_ns() - FRESH
-    return Entry(name, found.checksum, form, before.mark if is_sure else None, found.kind)
+        is_sure = mark_of(name) == before
+    # A time before 1970 or after now is none at which the file was written.
+    is_sure &= 0 <= min(before.written, before.changed) and max(before[1:3]) < time.time_ns() - FRESH
+    return Entry(name, found.checksum, form, before if is_sure else None, found.kind)
 
 
 def known_kind(known: Entry | None) -> str:
@@ -80,34 +85,99 @@ def known_kind(known: Entry | None) -> str:
     if not known or not known.mark:
         return ""
     with failing(Read, known.name):
-        return known.kind if known.mark == state_of(known.name).mark else ""
+        return known.kind if known.mark == mark_of(known.name) else ""
+
+
+def sum_of(form: int, line: str) -> str:
+    """Returns the sum at the end of a line with a mark, which shows that nothing else than this version wrote it."""
+    return hashlib.sha256(f"{form} ".encode() + os.fsencode(line)).hexdigest()[:16]
 
 
 def text_of(entries: Iterable[Entry], form: int, has_marks: bool = False) -> str:
     """Returns the text of a manifest in one form, with the marks of the files or without them."""
-    lines = [] if form == 1 else [f"# form {form}\n"]
+    lines = []
     for it in entries:
+        # Only a mark follows a tab.
+        line = line_with(it.name, before=f"{it.checksum}  ", has_tabs=False)
         if has_marks and it.mark:
-            lines.append(f"# file {it.mark.size} {it.mark.time} {it.kind}\n")
-        lines.append(line_with(it.name, before=f"{it.checksum}  "))
-    return "".join(lines)
+            line = f"{line[:-1]}\t# {it.kind} {' '.join(map(str, it.mark))} "
+            line += f"{sum_of(form, line)}\n"
+        lines.append(line)
+    return f"# form {form}, {len(lines)} {'file' if len(lines) == 1 else 'files'}\n" + "".join(lines)
 
 
-def entries_of(text: str) -> list[Entry]:
-    """Returns the entries of a manifest. Raises ValueError for a line that a manifest cannot have."""
-    found, form = [], 1
-    mark, kind = None, ""
-    lines = text.split("\n")
-    for line in lines if lines[-1] else lines[:-1]:
-        head, entry, marked = FORM.fullmatch(line), ENTRY.fullmatch(line), MARK.fullmatch(line)
-        name = name_in(entry[1], entry[3]) if entry else None
-        if head:
-            form = int(head[1])
-        elif marked:
-            mark, kind = Mark(int(marked[1]), int(marked[2])), marked[3]
-        elif entry and name:
-            found.append(Entry(name, entry[2], form, mark, kind))
-            mark, kind = None, ""
-        else:
-            raise ValueError(f"no manifest has the line {line!r}")
+@dataclass
+class Manifest:
+    """The entries of a manifest by the names of the files; the line of each; and the forms, and the numbers of files,
+    that its heads say."""
+
+    entries: dict[str, Entry] = field(default_factory=dict)
+    lines: dict[str, int] = field(default_factory=dict)
+    forms: set[int] = field(default_factory=set)
+    counts: list[Optional[int]] = field(default_factory=list)
+
+    @property
+    def form(self) -> int:
+        return max(self.forms, default=1)
+
+    def add(self, at: int, entry: Entry) -> None:
+        """Adds the entry of a line. Raises ValueError if there is one of its file."""
+        other = self.entries.get(entry.name)
+        if other:
+            what = "the file" if other.checksum == entry.checksum else "another checksum of the file"
+            raise ValueError(f"line {at} has {what} of line {self.lines[entry.name]} again")
+        self.entries[entry.name], self.lines[entry.name] = entry, at
+
+    def check(self) -> None:
+        """Raises ValueError if the manifest has another number of files than its heads say."""
+        wanted = sum(it or 0 for it in self.counts)
+        if None not in self.counts and self.counts and wanted != len(self.entries):
+            raise ValueError(f"its head says {wanted}, and it lists {len(self.entries)}: it is cut, or was edited")
+
+
+def heads_of(lines: Iterable[str]) -> Manifest:
+    """Returns a manifest without entries, with what its heads say. Raises ValueError for two forms."""
+    found = Manifest()
+    for head in filter(None, map(HEAD.fullmatch, lines)):
+        found.forms.add(int(head[1]))
+        found.counts.append(int(head[2]) if head[2] else None)
+    if len(found.forms) > 1:
+        raise ValueError("it has checksums of both forms: keep two manifests")
     return found
+
+
+def lines_of(text: str) -> list[str]:
+    """Returns the lines of a manifest. Raises ValueError if the last one has no end, or if one ends in CR LF."""
+    lines = text.split("\n")
+    if lines.pop():
+        raise ValueError("its last line has no end: it is cut")
+    if any(it.endswith("\r") for it in lines):
+        raise ValueError("its lines end in CR LF, and those of a manifest in LF")
+    return lines
+
+
+def manifest_of(text: str) -> Manifest:
+    """Returns what a manifest says. Raises ValueError for a line that no manifest can have, for a line with a mark that
+    is not as it was written, for a file that is listed twice, and for a manifest that is cut."""
+    lines = lines_of(text)
+    found = heads_of(lines)
+    for at, line in enumerate(lines, 1):
+        if HEAD.fullmatch(line) or EARLIER.fullmatch(line):
+            continue
+        marked = MARKED.fullmatch(line)
+        entry = ENTRY.fullmatch(marked[1] if marked else line)
+        name = name_in(entry[1], entry[3]) if entry else None
+        if not entry or not name:
+            raise ValueError(f"no manifest has the line {line!r}")
+        if marked and (None in found.counts or sum_of(found.form, line[: -len(marked[4])]) != marked[4]):
+            raise ValueError(f"line {at} is not as it was written; without what follows its tab, the file is read")
+        mark = Mark(*map(int, marked[3].split())) if marked else None
+        found.add(at, Entry(name, entry[2], found.form, mark, marked[2] if marked else ""))
+    found.check()
+    return found
+
+
+def strange(found: Manifest) -> Iterator[str]:
+    """Yields what is odd about a manifest that can be read."""
+    if found.entries and not found.forms:
+        yield "it does not say its form, which is taken for 1"

@@ -37,10 +37,16 @@ NO_XML = re.compile("[^\t\n\r\x20-\ud7ff\ue000-\ufffd\U00010000-\U0010ffff]")
 NO_MESSAGE, NO_PROPERTY = re.compile("[%\r\n]"), re.compile("[%\r\n:,]")
 
 
-def line_with(name: str, before: str = "", after: str = "", more: str = "") -> str:
+# How names are written that lines cannot have.
+ESCAPES = {"\\": r"\\", "\n": r"\n", "\r": r"\r", "\t": r"\t"}
+
+
+def line_with(name: str, before: str = "", after: str = "", more: str = "", *, has_tabs: bool = True) -> str:
     """Returns a line with the name of a file, and at its end with more that has names. As in a line of sha256sum, a
-    backslash, LF or CR in a name is written as two characters, and a backslash begins the line then."""
-    plain, others = (it.replace("\\", r"\\").replace("\n", r"\n").replace("\r", r"\r") for it in (name, more))
+    backslash, LF or CR in a name is written as two characters, and a backslash begins the line then; so is a tab, if
+    the line is to have none."""
+    table = str.maketrans({it: to for it, to in ESCAPES.items() if it != "\t" or not has_tabs})
+    plain, others = name.translate(table), more.translate(table)
     return ("\\" if (plain, others) != (name, more) else "") + before + plain + after + others + "\n"
 
 
@@ -49,9 +55,10 @@ def name_in(mark: str, plain: str) -> str | None:
     backslash that begins the line, if one does."""
     if not mark:
         return plain
-    if not re.fullmatch(r"(?:[^\\]|\\[\\nr])*", plain):
+    if not re.fullmatch(r"(?:[^\\]|\\[\\nrt])*", plain):
         return None
-    return re.sub(r"\\(.)", lambda it: {"n": "\n", "r": "\r"}.get(it[1], "\\"), plain)
+    meant = {written: it for it, written in ESCAPES.items()}
+    return re.sub(r"\\.", lambda it: meant[it[0]], plain)
 
 
 def told(name: str, error: DnormError) -> str:
@@ -65,7 +72,7 @@ def line_of(name: str, result: Result) -> str:
     if isinstance(result, DnormError):
         return line_with(name, after=told(name, result))
     more = [*([f"fits {', '.join(result.fits)}"] if result.fits else []), *result.remarks]
-    return line_with(name, after=f": accepted {result.kind}", more="".join(f", {it}" for it in more))
+    return line_with(name, after=f": {result.status} {result.kind}", more="".join(f", {it}" for it in more))
 
 
 def cause_of(result: Result) -> list[str]:
@@ -81,7 +88,7 @@ def cause_of(result: Result) -> list[str]:
 def record_of(name: str, result: Result) -> dict[str, object]:
     """Returns the JSON object of a file."""
     if isinstance(result, Accepted):
-        found: dict[str, object] = {"name": name, "status": "accepted", "kind": result.kind, "forms": result.forms}
+        found: dict[str, object] = {"name": name, "status": result.status, "kind": result.kind, "forms": result.forms}
         graphs = {} if result.fits is None else {"graphs": result.fits, "not_accepted": result.not_accepted}
         return {**found, **graphs, "remarks": result.remarks}
     found = {"name": name, "status": "failed", "error": f"{name}{told(name, result)}", "hint": None}
@@ -104,7 +111,7 @@ def annotation_of(name: str, result: Result) -> str:
     remarks. There is none for any other accepted file."""
     properties = {"file": os.path.normpath(name)}
     if isinstance(result, Accepted):
-        text = f"{name}: accepted {result.kind}, {', '.join(result.remarks)}"
+        text = f"{name}: {result.status} {result.kind}, {', '.join(result.remarks)}"
         return annotation("warning", properties, text) if result.remarks else ""
     parts = [f"{name}{told(name, result)}"]
     if isinstance(result, Refused):
@@ -143,7 +150,7 @@ def sarif_of(name: str, result: Result) -> dict[str, object]:
     place: dict[str, object] = {"artifactLocation": {"uri": quote(os.fsencode(os.path.normpath(name)))}}
     found: dict[str, object] = {"level": "error", "locations": [{"physicalLocation": place}]}
     if isinstance(result, Accepted):
-        text = f"accepted {result.kind}, {', '.join(result.remarks)}"
+        text = f"{result.status} {result.kind}, {', '.join(result.remarks)}"
         return {**found, "level": "warning", "message": {"text": text}} if result.remarks else {}
     text = told(name, result).lstrip(":").strip()
     if isinstance(result, Refused):

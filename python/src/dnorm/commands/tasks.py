@@ -9,7 +9,7 @@ import os
 import time
 from argparse import Namespace
 from collections import Counter
-from collections.abc import Callable, Sequence
+from collections.abc import Callable, Mapping, Sequence
 from typing import TypeVar
 
 from ..calls import canon_into
@@ -20,12 +20,12 @@ from ..handles import canonical_sum
 from ..instances import PROBLEM
 from ..library import instance_of, library_of
 from ..limits import Limit
-from ..program import Program, unexpected
+from ..program import Program, absolute, unexpected
 from ..summary import differences
 from .checks import Accepted, Checker, Partners
 from .folders import Found, Workers, find, in_order_of_names, outcome
 from .listing import Listed, listed, record_of_listed, row_of, table, text_of_listed
-from .manifests import Entry, Summed, entries_of, entry_of, known_kind, state_of, text_of
+from .manifests import Entry, Manifest, Summed, entry_of, known_kind, manifest_of, mark_of, strange, text_of
 from .reports import (
     Case,
     annotation_of,
@@ -39,6 +39,7 @@ from .reports import (
     record_of_differences,
     sarif,
 )
+from .staged import staged
 
 # The exit statuses besides 0. The greatest one that applies counts.
 DIFFERS, REFUSED, USAGE, FAILED = 1, 2, 3, 4
@@ -61,7 +62,7 @@ class Run:
 
     def __init__(self, words: Namespace, console: Console) -> None:
         self.words, self.console, self.library = words, console, library_of(words.program)
-        self.status = self.done = self.refused = self.failed = self.others = self.ended = 0
+        self.status = self.done = self.refused = self.failed = self.others = self.excluded = self.ended = 0
         # How many files are done, if not all of them; what takes the results that a signal has left; and what prints
         # more about all results.
         self.unfinished = ""
@@ -71,8 +72,27 @@ class Run:
     def check(self) -> None:
         """Checks files, and prints a line for each, and at the end the refusals with their causes."""
         words = self.words
-        found = self.found()
-        known = {} if words.incremental is None else {it.name: it for it in self.listed(words.incremental)}
+        known = {} if words.incremental is None else self.listed(words.incremental).entries
+        with contextlib.ExitStack() as stack:
+            found = self.staged(stack) if words.staged is not None else self.found()
+            report = stack.enter_context(sink_of(words.junit)) if words.junit else None
+            cases = self.checked(found, known)
+            if report:
+                report.take(junit(cases))
+        self.print_end(cases)
+        if words.staged is None or self.status or any(it.remarks for it in accepted(cases)):
+            self.sum_up_checks(cases)
+
+    def staged(self, stack: contextlib.ExitStack) -> Found:
+        """Returns the texts that git has staged."""
+        words = self.words
+        # The texts are in another folder, which becomes the current one.
+        words.program, words.junit = absolute(words.program), words.junit and os.path.abspath(words.junit)
+        return staged(words.staged or None, stack)
+
+    def checked(self, found: Found, known: Mapping[str, Entry]) -> Sequence[Case]:
+        """Checks these files, except for those that are known, prints a line for each, and returns what it found."""
+        words = self.words
         partners = Partners(found.files if words.companions else ())
         checker = Checker(
             words.program,
@@ -93,37 +113,33 @@ class Run:
             cases.append(case)
             self.print_case(case)
 
-        with contextlib.ExitStack() as stack:
-            report = stack.enter_context(sink_of(words.junit)) if words.junit else None
-            self.each_file(found, checker.check, lambda name, result, seconds: take(Case(name, result, seconds)))
-            if report:
-                report.take(junit(cases))
-        self.print_end(cases)
-        self.sum_up_checks(cases, len(checker.unread))
+        self.each_file(found, checker.check, lambda name, result, seconds: take(Case(name, result, seconds)))
+        return cases
 
-    def sum_up_checks(self, cases: Sequence[Case], unread: int) -> None:
+    def sum_up_checks(self, cases: Sequence[Case]) -> None:
         """Prints what was counted of checks."""
-        accepted = [it.result for it in cases if isinstance(it.result, Accepted)]
-        alone = sum(it.is_alone for it in accepted)
-        unsure = sum(bool(it.not_accepted) for it in accepted)
+        found = accepted(cases)
+        alone = sum(it.is_alone for it in found)
+        unsure = sum(bool(it.not_accepted) for it in found)
+        unchanged = sum(it.is_unchanged for it in found)
         self.sum_up(
-            f"{self.done} accepted",
+            f"{self.done - unchanged} accepted{other_than(unchanged)}",
             counted(alone, "companion without a graph", "companions without a graph"),
             counted(unsure, "companion of a graph that is not accepted", "companions of graphs that are not accepted"),
-            counted(sum(it.named is not None for it in accepted), OTHER_KIND, OTHER_KINDS),
-            not_read(unread),
+            counted(sum(it.named is not None for it in found), OTHER_KIND, OTHER_KINDS),
         )
 
     def print_case(self, case: Case) -> None:
-        """Prints what the check of a file leads to."""
+        """Prints what the check of a file leads to. Of what is staged, refused and failed files come at the end."""
         name, result, _ = case
-        if self.words.quiet and isinstance(result, Accepted) and not result.remarks:
+        is_fine = isinstance(result, Accepted) and not result.remarks
+        if is_fine and (self.words.quiet or self.words.staged is not None):
             return
         if self.words.format == "json":
             self.console.print(as_json(record_of(name, result)))
         elif self.words.format == "github":
             self.console.print(annotation_of(name, result))
-        elif self.words.format == "text":
+        elif self.words.format == "text" and (isinstance(result, Accepted) or self.words.staged is None):
             self.console.print(line_of(name, result))
 
     def print_end(self, cases: Sequence[Case]) -> None:
@@ -136,7 +152,7 @@ class Run:
         for name, result, _ in cases:
             causes = "".join(f"    {it}\n" for it in cause_of(result))
             # A line that is the only one and has no cause would say the same once more.
-            if isinstance(result, DnormError) and (causes or len(cases) > 1):
+            if isinstance(result, DnormError) and (causes or len(cases) > 1 or self.words.staged is not None):
                 self.console.complain(line_of(name, result) + causes)
 
     def manifest(self) -> None:
@@ -144,7 +160,7 @@ class Run:
         files, those that have not changed are not read."""
         words = self.words
         output = words.output if words.incremental is None else words.incremental
-        known = {it.name: it for it in self.known()}
+        known = self.known()
         entries: list[Entry] = []
 
         def task(name: str) -> Entry:
@@ -170,12 +186,13 @@ class Run:
                 target.take(os.fsencode(text))
             elif not words.json:
                 self.console.print(text)
-        self.sum_up(f"{self.done} listed", not_read(sum(it is known.get(it.name) for it in entries)))
+        unchanged = sum(it is known.get(it.name) for it in entries)
+        self.sum_up(f"{self.done - unchanged} listed{other_than(unchanged)}")
 
-    def known(self) -> list[Entry]:
+    def known(self) -> dict[str, Entry]:
         """Returns the entries of the manifest that is to be renewed, or none if there is no such file yet."""
         name = self.words.incremental
-        return [] if name is None or not os.path.lexists(name) else self.listed(name, is_empty=True)
+        return {} if name is None or not os.path.lexists(name) else self.listed(name, is_empty=True).entries
 
     def summed(self, name: str, form: int = 1) -> Summed:
         """Returns the kind of a file, and its canonical checksum."""
@@ -190,7 +207,7 @@ class Run:
     def verify(self) -> None:
         """Compares the canonical checksums of a manifest with those of the files, and prints a line for each. Names
         files that the paths name and the manifest does not."""
-        entries = self.listed(self.words.verify)
+        entries = [*self.listed(self.words.verify).entries.values()]
         counts: Counter[str] = Counter()
 
         def take(entry: Entry, result: str | DnormError, _: float) -> None:
@@ -232,14 +249,17 @@ class Run:
         elif found != "same" or not self.words.quiet:
             self.console.print(line_with(name, after=f": {found}"))
 
-    def listed(self, name: str, is_empty: bool = False) -> list[Entry]:
-        """Returns the entries of a manifest, which may be empty or not."""
-        with failing(Read, name):
-            with open(name, "rb") as file:
-                entries = entries_of(os.fsdecode(file.read()))
-        if not entries and not is_empty:
+    def listed(self, name: str, is_empty: bool = False) -> Manifest:
+        """Returns what a manifest says, which may be empty or not, and tells what is odd about it. Like a text, it may
+        be compressed."""
+        with failing(Read, name), contextlib.ExitStack() as stack:
+            text = Text(name, stack, Limit(None, name))
+            found = manifest_of(os.fsdecode(b"".join(iter(text.next_piece, None))))
+        if not found.entries and not is_empty:
             raise Read(name, "it lists no file")
-        return entries
+        for it in strange(found):
+            self.console.complain(line_with(name, after=f": {it}"))
+        return found
 
     def same(self) -> None:
         """Prints groups of files that pose the same problem. A link to a file of a group is none of them."""
@@ -258,7 +278,11 @@ class Run:
             if file not in group or os.path.islink(group[file]) and not os.path.islink(name):
                 group[file] = name
 
-        self.each_file(self.found(), lambda name: (self.summed(name).checksum, state_of(name).identity), take)
+        def task(name: str) -> tuple[str, tuple[int, int]]:
+            checksum, mark = self.summed(name).checksum, mark_of(name)
+            return checksum, (mark.device, mark.number)
+
+        self.each_file(self.found(), task, take)
         found = [(sum_, sorted(it.values(), key=os.fsencode)) for sum_, it in groups.items() if len(it) > 1]
         if self.words.json:
             self.console.print("".join(as_json({"checksum": sum_, "names": names}) for sum_, names in found))
@@ -306,6 +330,7 @@ class Run:
         errors; otherwise they are counted."""
         words = self.words
         found = find(words.path, words.ending, words.exclude)
+        self.excluded += found.excluded
         if words.strict:
             errors = {name: Read(name, reason) for name, reason in found.others.items()}
             return Found(in_order_of_names({**found.files, **errors}), {})
@@ -397,8 +422,8 @@ class Run:
 
     def sum_up(self, done: str, *more: str) -> None:
         """Prints what was counted."""
-        others = counted(self.others, "other file", "other files")
-        parts = [done, f"{self.refused} refused", f"{self.failed} failed", *more, others, self.unfinished]
+        others = [counted(self.others, "other file", "other files"), counted(self.excluded, "excluded", "excluded")]
+        parts = [done, f"{self.refused} refused", f"{self.failed} failed", *more, *others, self.unfinished]
         self.console.complain(", ".join(it for it in parts if it) + "\n")
 
 
@@ -426,14 +451,18 @@ def record_of_entry(name: str, result: Entry | DnormError) -> dict[str, object]:
     return {"name": name, "status": "listed", "checksum": result.checksum, "form": result.form}
 
 
+def accepted(cases: Sequence[Case]) -> list[Accepted]:
+    return [it.result for it in cases if isinstance(it.result, Accepted)]
+
+
 def counted(count: int, one: str, many: str) -> str:
     """Returns a number of things in words, or nothing if there are none."""
     return f"{count} {one if count == 1 else many}" if count else ""
 
 
-def not_read(count: int) -> str:
-    """Returns how many files were not read, in words, or nothing if all were."""
-    return f"{count} not read again" if count else ""
+def other_than(unchanged: int) -> str:
+    """Returns how many files were not read, in words behind a number of others, or nothing if all were."""
+    return f", {unchanged} unchanged" if unchanged else ""
 
 
 def as_listed(it: Listed, words: Namespace, is_first: bool) -> str:

@@ -1,0 +1,138 @@
+"""The texts that git has staged, as it writes them to the working tree."""
+
+from __future__ import annotations
+
+import os
+import subprocess
+import tempfile
+from collections.abc import Iterable, Sequence
+from contextlib import ExitStack, suppress
+
+from ..errors import DnormError, NoProgram, Read
+from ..files import failing, reason_of
+from ..names import COMPANIONS, ENDINGS, is_text, misnamed_text, parts_of
+from ..program import on_path
+from .checks import WITH_COMPANIONS
+from .folders import Found, error_of_name
+
+# What the modes of files and of links begin with. All others are submodules.
+FILE, LINK = "100", "120"
+
+
+def git(*words: str, given: bytes = b"", top: str | None = None) -> bytes:
+    """Returns what a command of git prints. Raises Read if it fails, with the last line of its standard error."""
+    path = on_path("git")
+    if not path:
+        raise NoProgram("git", "there is no such program on PATH")
+    ran = subprocess.run([path, *words], input=given, capture_output=True, cwd=top, check=False)
+    if ran.returncode:
+        lines = os.fsdecode(ran.stderr).strip().splitlines() or [f"its status was {ran.returncode}"]
+        raise Read("git", lines[-1])
+    return ran.stdout
+
+
+def named(listed: bytes) -> list[str]:
+    """Returns names that each end in NUL."""
+    return [os.fsdecode(it) for it in listed.split(b"\0")[:-1]]
+
+
+class Index:
+    """The index of a repository: `modes` has the mode of each file by its name from `top`, the top of the working tree.
+    Files are written into `folder`, and `errors` has those that git cannot read."""
+
+    def __init__(self, folder: str) -> None:
+        self.top, self.folder = os.path.realpath(os.fsdecode(git("rev-parse", "--show-toplevel"))[:-1]), folder
+        rows = (it.split("\t", 1) for it in named(self.git("ls-files", "--stage", "-z")))
+        self.modes = {name: row[:3] for row, name in rows}
+        self.errors: dict[str, DnormError] = {}
+
+    def git(self, *words: str, given: bytes = b"") -> bytes:
+        return git(*words, given=given, top=self.top)
+
+    def changed_from(self, commit: str | None) -> list[str]:
+        """Returns the names of the files that the commit has otherwise, or not, and of those that only the commit has.
+        By default, that is the last commit, if there is one."""
+        if commit is None:
+            try:
+                commit = os.fsdecode(self.git("rev-parse", "--verify", "--quiet", "HEAD"))[:-1]
+            except Read:
+                commit = os.fsdecode(self.git("hash-object", "-t", "tree", os.devnull))[:-1]
+        return named(self.git("diff-index", "--cached", "--name-only", "--no-renames", "-z", commit, "--"))
+
+    def place(self, name: str) -> str:
+        return os.path.join(self.folder, name)
+
+    def write(self, names: Iterable[str]) -> None:
+        """Writes these files, and those of the index that links among them lead to."""
+        wanted, done = set(names), set[str]()
+        while wanted:
+            given = "".join(f"{it}\0" for it in sorted(wanted))
+            try:
+                self.git("checkout-index", "-z", "--stdin", f"--prefix={self.folder}/", given=os.fsencode(given))
+            except Read:
+                # What it has written may be cut, so all are written one by one.
+                for it in wanted:
+                    with suppress(OSError):
+                        os.remove(self.place(it))
+            for it in wanted:
+                if not os.path.lexists(self.place(it)):
+                    self.write_one(it)
+            done |= wanted
+            links = [it for it in wanted if self.modes[it] == LINK and os.path.islink(self.place(it))]
+            wanted = {it for it in map(self.turned, links) if it is not None} - done
+
+    def write_one(self, name: str) -> None:
+        """Writes a file that git does not write by itself, as one outside of a sparse checkout."""
+        try:
+            os.makedirs(os.path.dirname(self.place(name)), exist_ok=True)
+            if self.modes[name] == LINK:
+                os.symlink(self.git("cat-file", "blob", f":0:{name}"), os.fsencode(self.place(name)))
+                return
+            data = self.git("cat-file", "--filters", f":0:{name}")
+            with open(self.place(name), "xb") as file:
+                file.write(data)
+        except Read as error:
+            self.errors[name] = Read(name, f"git cannot read it: {error.reason}")
+        except OSError as error:
+            self.errors[name] = Read(name, reason_of(error))
+
+    def turned(self, link: str) -> str | None:
+        """Turns a link that was written to what it leads to from the working tree. Returns the name of that if it is a
+        file of the index."""
+        to = os.readlink(self.place(link))
+        path = os.path.realpath(os.path.join(self.top, os.path.dirname(link), to))
+        name = os.path.relpath(path, self.top)
+        is_tracked = self.modes.get(name, "") in (FILE, LINK)
+        # What is not tracked is not committed: the link leads nowhere then.
+        if is_tracked or name.split("/")[0] in ("..", ".git"):
+            os.remove(self.place(link))
+            os.symlink(self.place(name) if is_tracked else path, self.place(link))
+        return name if is_tracked else None
+
+    def is_folder(self, link: str) -> bool:
+        """Whether a link leads to a folder of the repository, which is not followed."""
+        to = os.path.normpath(os.path.join(os.path.dirname(link), os.readlink(self.place(link))))
+        return os.path.isdir(self.place(link)) or any(it.startswith(f"{to}/") for it in self.modes)
+
+
+def staged(commit: str | None, stack: ExitStack) -> Found:
+    """Returns the texts that are staged and that the commit has not so, and the companions of such graphs. Their names
+    are those in the repository, and they lead to files in a folder, which is the current one until the stack ends."""
+    folder = stack.enter_context(tempfile.TemporaryDirectory(prefix="dnorm-staged-"))
+    with failing(Read, "git"):
+        index = Index(os.path.realpath(folder))
+        changed = [it for it in index.changed_from(commit) if is_text(it) or misnamed_text(it)]
+        stems = {parts_of(it)[0] for it in changed}
+        near = [it for it in index.modes if parts_of(it)[0] in stems and (is_text(it) or misnamed_text(it))]
+        index.write(it for it in near if index.modes[it] in (FILE, LINK))
+    stack.callback(os.chdir, os.getcwd())
+    os.chdir(folder)
+    return Found({it: index.errors.get(it) or error_of_name(it, ENDINGS) for it in wanted(index, changed, near)}, {})
+
+
+def wanted(index: Index, changed: Sequence[str], near: Sequence[str]) -> list[str]:
+    """Returns which of the names near those that have changed are checked."""
+    graphs = {stem for stem, ending in map(parts_of, changed) if ending in WITH_COMPANIONS}
+    names = {*changed} | {it for it in near if parts_of(it)[1] in COMPANIONS and parts_of(it)[0] in graphs}
+    links = {it for it in near if index.modes[it] == LINK and it not in index.errors and index.is_folder(it)}
+    return [it for it in near if it in names - links and index.modes[it] in (FILE, LINK)]

@@ -1,0 +1,278 @@
+"""Tests manifests: what they list, what verifying them says, which texts are none, and `--incremental`, which reads
+only what is new or was written."""
+
+import hashlib
+import json
+import os
+import shlex
+import shutil
+import time
+
+import pytest
+from known import COSTS, FLOWS, ROADS
+from shared import bytes_of, run, said, text_of, write
+from test_calls import BOTH, READS, fake
+from test_folders import MISSING, SET, hidden, make, make_set, module
+
+import dnorm
+
+pytestmark = READS
+ZEROS, ONES = 64 * "0", 64 * "1"
+# Texts that are no manifests, and why. H and J stand for checksums, and TAB for what follows the name of a file.
+NO_LINE = "no manifest has the line "
+NO_MANIFESTS = {
+    "": "it lists no file",
+    "# form 2\n": "it lists no file",
+    "H  a\n\n": f"{NO_LINE}''",
+    "H a\n": f"{NO_LINE}'H a'",
+    "H  \n": f"{NO_LINE}'H  '",
+    "# form 3\nH  a\n": f"{NO_LINE}'# form 3'",
+    "HH  a\n": f"{NO_LINE}'HH  a'",
+    "\\H  a\\x\n": rf"{NO_LINE}'\\H  a\\x'",
+    "x  a\n": f"{NO_LINE}'x  a'",
+    "# file 1 2 net\nH  a\n": f"{NO_LINE}'# file 1 2 net'",
+    "<<<<<<< HEAD\nH  a\n": f"{NO_LINE}'<<<<<<< HEAD'",
+    "# form 1, 2 files\nH  a\n": "its head says 2, and it lists 1: it is cut, or was edited",
+    "# form 1, 1 file\nH  a\nH  b\n": "its head says 1, and it lists 2: it is cut, or was edited",
+    "# form 1, 1 file\nH  a\n# form 1, 2 files\nJ  b\n": "its head says 3, and it lists 2: it is cut, or was edited",
+    "# form 1, 2 files\nH  a\nH  b": "its last line has no end: it is cut",
+    "H  a\r\nH  b\r\n": "its lines end in CR LF, and those of a manifest in LF",
+    "# form 1\nH  a\n# form 2\nH  b\n": "it has checksums of both forms: keep two manifests",
+    "H  a\nH  b\nH  a\n": "line 3 has the file of line 1 again",
+    "H  a\nJ  a\n": "line 2 has another checksum of the file of line 1 again",
+    "# form 1, 1 file\nH  aTAB\n": "line 2 is not as it was written; without what follows its tab, the file is read",
+}
+TAB = "\t# sp 1 2 3 4 5 0123456789abcdef"
+UNKNOWN_FORM = "it does not say its form, which is taken for 1"
+
+
+def with_sums(text: str) -> str:
+    return text.replace("H", ZEROS).replace("J", ONES).replace("TAB", TAB)
+
+
+def sum_of(tested: str, text: bytes, form: str) -> str:
+    """Returns the canonical checksum of a text."""
+    return hashlib.sha256(run([tested, "canon", "--form", form, "-"], text).out).hexdigest()
+
+
+@BOTH
+def test_manifests(tested: str) -> None:
+    """Manifests: what they list, and what verifying them says."""
+    make_set()
+    accepted = {name: text for name, (text, what) in SET.items() if "accepted" in what}
+    refused = "set/bad.max:end: 19 MissingTerminal\nset/v.co:2: 5 WrongLine\n"
+    for form in "12":
+        lines = "".join(f"{sum_of(tested, text, form)}  {name}\n" for name, text in accepted.items())
+        found = module("manifest", "--form", form, "set")
+        assert found == said(
+            f"# form {form}, 11 files\n{lines}", f"{refused}11 listed, 2 refused, 0 failed, 4 other files\n", 2
+        ), f"a manifest of form {form}"
+        same = "".join(f"{name}: same\n" for name in accepted)
+        # The last two are of earlier versions.
+        for head in [f"# form {form}, 11 files\n", f"# form {form}\n", *([""] if form == "1" else [])]:
+            write("list", head + lines)
+            found = module("manifest", "--verify", "list")
+            told = "" if head else f"list: {UNKNOWN_FORM}\n"
+            count = f"{told}11 the same, 0 different, 0 refused, 0 failed\n"
+            assert found == said(same, count, 0), f"form {form} verified, head {head!r}"
+    changes = [("set/flow.min", FLOWS, ": differs", 1), ("set/s.ss", b"p\n", ":1: 4 UnknownProblem", 2)]
+    changes.append(("set/roads.gr.gz", b"", ": 31 Read (the compressed data end too early)", 4))
+    for name, text, what, status in changes:
+        write(name, text)
+        same = same.replace(f"{name}: same\n", f"{name}{what}\n")
+        found = module("manifest", "--verify", "list")
+        assert (found.out.decode(), found.status) == (same, status), f"a manifest with another {name}"
+    assert found.err == b"8 the same, 1 different, 1 refused, 1 failed\n", "its counts"
+
+
+def test_no_manifests() -> None:
+    """Texts that are no manifests, each by both options that read one."""
+    write("b.gr", ROADS)
+    for other, reason in NO_MANIFESTS.items():
+        write("other", with_sums(other))
+        wanted = f"other: 31 Read ({with_sums(reason)})\n"
+        for words in [["--verify", "other"], *([["--incremental", "other", "b.gr"]] if "H" in other else [])]:
+            assert module("manifest", *words) == said("", wanted, 4), f"{other!r} as a manifest, {words}"
+    assert module("manifest", "--verify", "missing") == said("", MISSING, 4), "no manifest"
+    for name, reason in {"/dev/full": "No space left on device", "no/x": "No such file or directory"}.items():
+        found = module("manifest", "--output", name, "b.gr")
+        assert (found.err, found.status) == (f"{name}: 33 Write ({reason})\n".encode(), 4), f"a manifest in {name}"
+
+
+def test_joined_manifests() -> None:
+    """Manifests that are put together, sorted, compressed, or have names that look like marks."""
+    odd = f"a{TAB}.gr"
+    make({"b.gr": ROADS, odd: ROADS, "c.gr": COSTS})
+    time.sleep(AGE)
+    module("manifest", "--incremental", "one", "b.gr", odd)
+    module("manifest", "--output", "two", "c.gr")
+    count = "3 the same, 0 different, 0 refused, 0 failed\n"
+    for order in ["one two", "two one"]:
+        write("both", b"".join(map(bytes_of, order.split())))
+        assert module("manifest", "--verify", "both", "-q") == said("", count, 0), f"{order} together"
+    write("sorted", b"".join(sorted(bytes_of("both").splitlines(True))))
+    assert module("manifest", "--verify", "sorted", "-q") == said("", count, 0), "sorted lines"
+    for packed in ["both.gz", "both.xz"]:
+        module("manifest", "--output", packed, "b.gr", odd, "c.gr")
+        assert module("manifest", "--verify", packed, "-q") == said("", count, 0), packed
+    write("plain", bytes_of("both.gz"))
+    found = module("manifest", "--verify", "plain")
+    assert found.status == 4 and found.err.startswith(b"plain: 31 Read ("), "a compressed manifest of another name"
+
+
+def test_kept_manifests() -> None:
+    """A file that fails takes no entry out of a manifest."""
+    make({f"set/{it}.gr": ROADS for it in "abc"})
+    module("manifest", "--output", "list", "set")
+    before = bytes_of("list")
+    os.rename("set/b.gr", "b.gr")
+    os.symlink("nowhere", "set/b.gr")
+    lines = "set/b.gr: 31 Read (No such file or directory)\nlist: not written, since it would lack what failed\n"
+    lines += "2 listed, 0 refused, 1 failed\n"
+    for target in ["list", "new"]:
+        wanted = lines.replace("list: ", f"{target}: ")
+        found = module("manifest", "--output", target, "set")
+        assert found == said("", wanted, 4), f"a manifest in {target} while a file fails"
+    assert (bytes_of("list"), os.path.exists("new"), hidden()) == (before, False, []), "the manifest"
+    os.replace("b.gr", "set/b.gr")
+    found = module("manifest", "--verify", "list", "-q", "set")
+    assert found == said("", "3 the same, 0 different, 0 refused, 0 failed\n", 0), "the manifest verified"
+    write("set/c.gr", b"x\n")
+    found = module("manifest", "--output", "list", "set")
+    lines = "set/c.gr:1: 1 BadLine\n2 listed, 1 refused, 0 failed\n"
+    assert found == said("", lines, 2), "a manifest beside a refused file"
+    assert len(bytes_of("list").splitlines()) == 3, "its lines"
+
+
+# How old a file is, in seconds, before it has a mark.
+AGE = 2.1
+BEGIN = "manifest --incremental list set".split()
+OLD = b"# file 12 1600000000000000000 sp\n"
+
+
+def rewritten(name: str, text: bytes) -> None:
+    """Writes a file again, with its size and the time of writing that it had."""
+    found = os.stat(name)
+    assert found.st_size == len(text)
+    write(name, text)
+    os.utime(name, ns=(found.st_atime_ns, found.st_mtime_ns))
+
+
+def moved(source: str, name: str) -> None:
+    """Moves another file to this name, with the time of writing of that which had it, as `cp -p` and `mv` do."""
+    found = os.stat(name)
+    os.utime(source, ns=(found.st_atime_ns, found.st_mtime_ns))
+    time.sleep(AGE)
+    os.replace(source, name)
+
+
+@BOTH
+def test_renewed() -> None:
+    """That `manifest --incremental` reads only what is new or was written, whatever its size, its time and its name
+    are."""
+    other = ROADS.replace(b"a 2 1 4", b"a 2 1 5")
+    make({f"set/{it}.gr": ROADS for it in "abcd"} | {"aside.gr": other, "f/link.gr": ROADS, "g/link.gr": other})
+    os.symlink("../f/link.gr", "set/link.gr")
+    # A file of before 1970.
+    write("set/past.gr", ROADS)
+    os.utime("set/past.gr", ns=(-(10**18), -(10**18)))
+    time.sleep(AGE)
+    make({"set/fresh.gr": ROADS})
+    assert module(*BEGIN) == said("", "7 listed, 0 refused, 0 failed\n", 0), "a first manifest"
+    lines = text_of("list").splitlines()
+    marked = [it[66:].partition("\t")[0] for it in lines if "\t# sp " in it]
+    assert marked == [f"set/{it}.gr" for it in ("a", "b", "c", "d", "link")], "files with marks"
+    assert module(*BEGIN) == said("", "2 listed, 5 unchanged, 0 refused, 0 failed\n", 0), "a second one"
+    rewritten("set/a.gr", other)
+    moved("aside.gr", "set/b.gr")
+    times = os.stat("f/link.gr")
+    os.utime("g/link.gr", ns=(times.st_atime_ns, times.st_mtime_ns))
+    os.remove("set/link.gr")
+    os.symlink("../g/link.gr", "set/link.gr")
+    os.remove("set/c.gr")
+    found = module(*BEGIN)
+    assert found == said("", "5 listed, 1 unchanged, 0 refused, 0 failed\n", 0), "files that were replaced"
+    sums = {it[66:].partition("\t")[0]: it[:64] for it in text_of("list").splitlines()[1:]}
+    old, new = dnorm.checksum(ROADS), dnorm.checksum(other)
+    wanted = {"a": new, "b": new, "d": old, "fresh": old, "link": new, "past": old}
+    assert sums == {f"set/{it}.gr": checksum for it, checksum in wanted.items()}, "their checksums"
+    found = module(*BEGIN, "--form", "2")
+    assert (found.status, b"unchanged" in found.err) == (0, False), "another form is read"
+    shutil.copytree("set", "elsewhere/set", copy_function=shutil.copy2)
+    os.chdir("elsewhere")
+    found = module("manifest", "--incremental", "../list", "--form", "2", "set/d.gr")
+    assert b"unchanged" not in found.err, "another file of the same name, size and time"
+
+
+def test_edited_marks() -> None:
+    """A line with a mark is kept only as it was written; the marks of earlier versions are not believed."""
+    make({"set/a.gr": ROADS, "set/b.gr": ROADS})
+    time.sleep(AGE)
+    module(*BEGIN)
+    text = text_of("list")
+    number = str(os.stat("set/a.gr").st_ino)
+    for before, after in [(text[20:30], "0123456789"), ("set/a.gr", "set/c.gr"), ("\t# sp ", "\t# ss "), (number, "7")]:
+        assert before in text
+        write("list", text.replace(before, after, 1))
+        for words in (BEGIN, ["check", *BEGIN[1:]], ["manifest", "--verify", "list"]):
+            found = module(*words)
+            line = b"list: 31 Read (line 2 is not as it was written; without what follows its tab, the file is read)\n"
+            assert (found.err, found.status) == (line, 4), f"{after} for {before}, {words}"
+    write("list", text.replace("# form 1", "# form 2"))
+    assert module(*BEGIN).status == 4, "a mark of another form"
+    write("list", text.replace("# form 1, 2 files\n", "# form 1\n"))
+    assert module(*BEGIN).status == 4, "a mark below the head of an earlier version"
+    plain = [it.partition("\t")[0] for it in text.splitlines()[1:]]
+    write("list", b"".join(OLD + it.encode() + b"\n" for it in plain))
+    found = module(*BEGIN)
+    told = f"list: {UNKNOWN_FORM}\n2 listed, 0 refused, 0 failed\n"
+    assert (found, text_of("list")) == (said("", told, 0), text), "marks of an earlier version"
+
+
+@pytest.mark.parametrize("meanwhile", ["", "; touch -r kept set/a.gr"])
+def test_written_meanwhile(tested: str, meanwhile: str) -> None:
+    """A file that is written while it is listed has no mark, even if it gets back its size and its time."""
+    make({"set/a.gr": ROADS, "kept": ROADS})
+    shutil.copy2("set/a.gr", "kept")
+    time.sleep(AGE)
+    script = f'[ "$1" = --version ] || {{ cat kept > set/a.gr{meanwhile}; }}; exec {shlex.quote(tested)} "$@"'
+    os.environ["DNORM"], os.environ["DNORM_LIBRARY"] = fake("writes", script), "none"
+    module(*BEGIN)
+    found = text_of("list") if os.path.exists("list") else ""
+    assert "\t" not in found, f"a mark, {meanwhile}"
+
+
+@BOTH
+def test_known_files() -> None:
+    """That `check --incremental` reads only what is new or was written, and each companion beside its graph."""
+    make({f"set/{it}": ROADS for it in ("a.gr", "b.gr", "c.gr", "d.min")} | {"set/a.ss": SET["set/s.ss"][0]})
+    time.sleep(AGE)
+    make({"set/fresh.gr": ROADS})
+    module(*BEGIN)
+    kept = bytes_of("list")
+    for it in ("b.gr", "fresh.gr"):
+        rewritten(f"set/{it}", b"x" * len(ROADS))
+    write("set/new.gr", ROADS)
+    begin = ["check", *BEGIN[1:]]
+    lines = ["a.gr: unchanged sp", "a.ss: unchanged ss", "b.gr:1: 1 BadLine", "c.gr: unchanged sp"]
+    lines += ["d.min: unchanged sp, its ending is that of min", "fresh.gr:1: 1 BadLine", "new.gr: accepted sp"]
+    found = module(*begin)
+    assert (found.out.decode().splitlines(), found.status) == ([f"set/{it}" for it in lines], 2), "known files"
+    end = "1 accepted, 4 unchanged, 2 refused, 0 failed, 1 file of another kind than its ending"
+    assert found.err.decode().splitlines()[-1] == end, "known files at the end"
+    found = module(*begin, "-q")
+    told = [f"set/{lines[it]}" for it in (2, 4, 5)]
+    assert found.out.decode().splitlines() == told, "known files, -q"
+    write("set/a.gr", b"x" * len(ROADS))
+    found = module(*begin, "--companions")
+    companion = "set/a.ss: accepted ss, graph not accepted: set/a.gr"
+    assert found.out.decode().splitlines()[1] == companion, "a companion of a graph that was written"
+    lines = module(*begin, "--strict").out.decode().splitlines()
+    assert "set/d.min: 31 Read (unchanged sp, its ending is that of min)" in lines, f"strict: {lines}"
+    of = {it["name"]: it for it in map(json.loads, module(*begin, "--json").out.splitlines())}
+    found_ = [(of[f"set/{it}.gr"]["status"], of[f"set/{it}.gr"]["forms"]) for it in ("c", "new")]
+    assert found_ == [("unchanged", None), ("accepted", [])], "known files in JSON"
+    assert bytes_of("list") == kept, "the manifest"
+    os.remove("list")
+    wanted = "list: 31 Read (No such file or directory)\n"
+    assert module(*begin) == said("", wanted, 4), "a check by no manifest"
