@@ -32,6 +32,8 @@ CHECKERS = {
     "helgrind": ["valgrind", "-q", "--error-exitcode=9", "--tool=helgrind"],
 }
 STRICT = ["-Wall", "-Wextra", "-pedantic-errors", "-Wconversion", "-Wshadow", "-Werror", "-fsyntax-only"]
+# What only C++ warns of.
+STRICT_CPP = ["-Wold-style-cast"]
 # Compilers with their standards, and the headers that compile in them.
 STANDARDS = {
     "gcc": (["c99", "c11", "c17"], ["dnorm.h", "dnorm_tools.h"]),
@@ -55,11 +57,17 @@ int main(void) {
 """
 # A part of another file of a program.
 OTHER = "int other(void);\nint other(void) {\n    return dnorm_code_name(1)[0];\n}\n"
-# Statements of C++, with what does not compile in them and what does; `text` is a std::string and `graph` a const
-# Instance.
+# Statements of C++, with what does not compile in them and what does; `text` is a std::string_view, `name` a
+# std::string, `chars` an array, `path` a std::filesystem::path and `graph` a const Instance.
 WRONG = {
-    "the arcs of a temporary": ("for (auto &it : {}.each_arc()) (void)it;", "Instance(text)", "graph"),
-    "the name of a file as a text": ("Instance it({});", '"roads.gr"', 'dnorm_cpp::Path("roads.gr")'),
+    "a literal as a text": ("Instance it{{{}}};", '"roads.gr"', 'dnorm_cpp::Path("roads.gr")'),
+    "an array as a text": ("Instance it{{{}}};", "chars", "std::string_view(chars)"),
+    "a string as a text": ("Instance it{{{}}};", "name", "std::string_view(name)"),
+    "a string that is moved as a text": ("Instance it{{{}}};", "std::move(name)", "dnorm_cpp::Path(std::move(name))"),
+    "the end of a name as a text": ("Instance it{{{}}};", "name.c_str()", "text.substr(1)"),
+    "a name of other memory as a text": ("Instance it{{{}}};", "std::pmr::string(name)", "dnorm_cpp::Path(name)"),
+    "a path as a text": ("Instance it{{{}}};", "path", "dnorm_cpp::Path(path)"),
+    "a name to be read": ("dnorm_status it; Instance::read({}, it);", "name", "dnorm_cpp::Path(name)"),
     "a change of a const instance": ("{};", "graph = Instance(text)", "graph.columns()"),
     "a copy": ("Instance it({});", "graph", "text"),
     "a handle without const": ("const dnorm_handle it = DNORM_NONE; {};", "dnorm_free(&it)", "dnorm_facts(&it)"),
@@ -223,8 +231,11 @@ def test_refusals_in_cpp(in_cpp: str, tested: str) -> None:
 def test_files_in_cpp(in_cpp: str, folder: str) -> None:
     write("text", ROADS)
     assert run([in_cpp, "text"]) == said(ROADS_CANON)
+    assert run([in_cpp, "-"], ROADS) == said(ROADS_CANON)
     for name, cause in {"none": "No such file or directory", folder: "Is a directory"}.items():
         assert run([in_cpp, name]) == said(b"", f"{name}: {cause}\n", 4)
+    failed = run(["sh", "-c", 'exec "$1" - < /', "sh", in_cpp])
+    assert failed.status == 4 and b"the stream cannot be read" in failed.err
 
 
 @pytest.mark.parametrize("text", [FLOWS, b"p sp 1 1\nq\n"], ids=["accepted", "refused"])
@@ -242,9 +253,10 @@ def test_clean_headers(c_library: str, compiler: str, standard: str, header: str
     write("Rmath.h", RMATH)
     own, other = f"#include <{header}>\n", '#include "Rmath.h"\n'
     source = f"uses.{'cc' if '+' in compiler else 'c'}"
+    warnings = [*STRICT, *STRICT_CPP] if "+" in compiler else STRICT
     for text in [own, other + own, own + other]:
         write(source, text + USES)
-        assert run([compiler, f"-std={standard}", *STRICT, f"-I{c_library}/include", source]) == said(), text
+        assert run([compiler, f"-std={standard}", *warnings, f"-I{c_library}/include", source]) == said(), text
 
 
 @pytest.mark.parametrize("words, header", [("cc -std=c99", "dnorm_tools.h"), ("c++ -std=c++17", "dnorm.hpp")])
@@ -264,10 +276,11 @@ def test_wrong_use(c_library: str, name: str) -> None:
     need("c++")
     statement, wrong, right = WRONG[name]
     statuses = []
-    for it in [wrong, right]:
-        lines = ["#include <dnorm.hpp>", "using dnorm_cpp::Instance;"]
-        lines.append("void f(const std::string &text, const Instance &graph) {")
-        lines += ["    (void)text, (void)graph;", f"    {statement.format(it)}", "}"]
+    for given in [wrong, right]:
+        lines = [f"#include <{it}>" for it in ("dnorm.hpp", "filesystem", "memory_resource")]
+        lines += ["using dnorm_cpp::Instance;", "void f(std::string_view text, const Instance &graph) {"]
+        lines += ['    std::string name; std::filesystem::path path; char chars[] = "roads.gr";']
+        lines += ["    (void)text, (void)graph, (void)chars;", f"    {statement.format(given)}", "}"]
         write("wrong.cc", "\n".join([*lines, ""]))
         ran = run(["c++", "-std=c++17", "-fsyntax-only", f"-I{c_library}/include", "wrong.cc"])
         statuses.append(ran.status != 0)
