@@ -374,17 +374,11 @@ inline void write(std::ostream &out, std::uint8_t kind, std::int64_t nodes, cons
                   const std::vector<dnorm_arc> &arcs = {}) {
     char line[DNORM_LINE];
     const bool is_graph = kind < DNORM_SS;
-    if (!dnorm_problem_line(kind, nodes, is_graph ? arcs.size() : items.size(), line))
-        throw std::invalid_argument("this is no kind of a text");
-    out << line;
-    for (const dnorm_item &it : items) {
-        dnorm_item_line(kind, it, line);
-        out << line;
-    }
-    for (std::size_t i = 0; is_graph && i < arcs.size(); i++) {
-        dnorm_arc_line(kind, arcs[i], line);
-        out << line;
-    }
+    const int length = dnorm_problem_line(kind, nodes, is_graph ? arcs.size() : items.size(), line);
+    if (length == 0) throw std::invalid_argument("this is no kind of a text");
+    out.write(line, length);
+    for (const dnorm_item &it : items) out.write(line, dnorm_item_line(kind, it, line));
+    for (std::size_t i = 0; is_graph && i < arcs.size(); i++) out.write(line, dnorm_arc_line(kind, arcs[i], line));
     if (!out.flush()) throw std::ios_base::failure("the text cannot be written");
 }
 

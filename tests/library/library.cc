@@ -226,6 +226,7 @@ static bool is_written(const Instance &instance) {
     const dnorm_summary facts = instance.facts();
     const std::vector<dnorm_arc> arcs = facts.kind <= DNORM_SP ? instance.arcs() : std::vector<dnorm_arc>();
     std::ostringstream out, none;
+    out.width(80);
     dnorm_cpp::write(out, facts.kind, facts.nodes, instance.items(), arcs);
     std::ofstream missing("/none/none"), full("/dev/full");
     for (std::ostream *it : {&missing, &full})

@@ -4,9 +4,48 @@
 use dnorm::{
     Arc, Columns, Declared, Difference, Fit, Form, Instance, Item, Kind, ReadError, Reader, Refusal,
 };
-use std::io::{stdin, stdout, Write};
+use std::alloc::{GlobalAlloc, Layout, System};
+use std::fs::File;
+use std::io::{self, stdin, stdout, Write};
 use std::process::ExitCode;
+use std::sync::atomic::{AtomicUsize, Ordering};
 use std::thread::{scope, spawn};
+
+/// Counts the bytes of memory that are asked for.
+struct Counting;
+
+#[global_allocator]
+static COUNTING: Counting = Counting;
+static ASKED: AtomicUsize = AtomicUsize::new(0);
+
+unsafe impl GlobalAlloc for Counting {
+    unsafe fn alloc(&self, layout: Layout) -> *mut u8 {
+        ASKED.fetch_add(layout.size(), Ordering::Relaxed);
+        System.alloc(layout)
+    }
+
+    unsafe fn dealloc(&self, made: *mut u8, layout: Layout) {
+        System.dealloc(made, layout)
+    }
+}
+
+/// A writer that counts its pieces, and perhaps fails at the end.
+struct Pieces {
+    written: Vec<u8>,
+    count: usize,
+    end: io::Result<()>,
+}
+
+impl Write for Pieces {
+    fn write(&mut self, piece: &[u8]) -> io::Result<usize> {
+        self.count += 1;
+        self.written.write(piece)
+    }
+
+    fn flush(&mut self) -> io::Result<()> {
+        std::mem::replace(&mut self.end, Ok(()))
+    }
+}
 
 /// Reads a text in pieces of this size.
 fn read_in_pieces(text: &[u8], size: usize) -> Result<Instance, Refusal> {
@@ -37,10 +76,23 @@ fn check_arcs(instance: &Instance, form: Form) {
     let has_all = instance.kind() == Kind::Min && !arcs.is_empty();
     assert_eq!(columns.b.is_empty(), !has_all);
     match instance.columns_32(form) {
-        Ok(short) => {
-            assert!(short.tails.len() == arcs.len() && short.c.len() == columns.c.len());
-            let wide = short.a.iter().map(|it| i64::from(*it));
-            assert!(wide.eq(columns.a.iter().copied()));
+        Ok(Columns {
+            tails,
+            heads,
+            a,
+            b,
+            c,
+        }) => {
+            let widened = |column: Vec<i32>| column.into_iter().map(i64::from).collect();
+            let [tails, heads, a, b, c] = [tails, heads, a, b, c].map(widened);
+            let wide = Columns {
+                tails,
+                heads,
+                a,
+                b,
+                c,
+            };
+            assert_eq!(wide, columns);
         }
         Err(_) => {
             let wide = |it: &i64| i32::try_from(*it).is_err();
@@ -156,6 +208,41 @@ fn check_pairs() -> Result<(), Refusal> {
     Ok(())
 }
 
+/// Checks that a graph of few arcs takes little memory, and that a text is written in large pieces, whose failures are
+/// seen.
+fn check_costs() -> Result<(), Refusal> {
+    for text in ["p sp 2 2\na 1 2 7\na 2 1 7\n", "p aux sp ss 1\ns 9\n"] {
+        let before = ASKED.load(Ordering::Relaxed);
+        let small = Instance::from_bytes(text.as_bytes())?;
+        let count = small.arcs(Form::One).count() + small.items().count();
+        let asked = ASKED.load(Ordering::Relaxed) - before;
+        assert!(count > 0 && asked < 1000, "{asked} bytes for {text}");
+    }
+    let arcs: Vec<Arc> = (1..=9000).map(arc_of).collect();
+    let mut pieces = Pieces {
+        written: Vec::new(),
+        count: 0,
+        end: Err(io::ErrorKind::TimedOut.into()),
+    };
+    let failed = dnorm::write(&mut pieces, Kind::Sp, 9000, &[], &arcs).map_err(|it| it.kind());
+    assert_eq!(failed, Err(io::ErrorKind::TimedOut));
+    assert!(pieces.count <= 1 + pieces.written.len() / 4096);
+    let read = Instance::from_bytes(&pieces.written)?;
+    assert!(read.arcs(Form::One).eq(arcs) && read.lines() == 9000);
+    let full = File::options().write(true).open("/dev/full");
+    assert!(dnorm::write(full.expect("/dev/full"), Kind::Sp, 1, &[], &[]).is_err());
+    Ok(())
+}
+
+fn arc_of(tail: i64) -> Arc {
+    Arc {
+        tail,
+        head: 1,
+        a: -7,
+        ..Arc::default()
+    }
+}
+
 /// Writes the text in a file by the crate, once it has no arcs too many.
 fn print_file(name: &str) -> Result<(), ReadError> {
     let instance = Instance::open(name)?;
@@ -176,6 +263,7 @@ fn print() -> Result<(), ReadError> {
 fn main() -> ExitCode {
     assert_eq!(dnorm::abi(), 2);
     check_pairs().expect("instances");
+    check_costs().expect("instances");
     match std::env::args()
         .nth(1)
         .map_or_else(print, |it| print_file(&it))

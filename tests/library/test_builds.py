@@ -26,6 +26,10 @@ TYPES = {"uint8_t": "u8", "uint32_t": "u32", "uint64_t": "u64", "int64_t": "i64"
 MEMCHECK = ["valgrind", "-q", "--error-exitcode=9", "--leak-check=full", "--errors-for-leak-kinds=definite"]
 MEMCHECK += ["--show-leak-kinds=definite"]
 
+# Whether a program in Rust is linked with the archive, and the members of a workspace that has the crates below its
+# root; without members, the program is a workspace beside the crates.
+WORKSPACES = [("0", []), ("1", []), ("0", ["reads"]), ("1", ["dnorm-sys", "dnorm", "reads"])]
+
 # Versions that a project asks for, where the library's is MAJOR.MINOR.x, by whether CMake finds them.
 ASKED = {
     "{0}.{1}.{2}": True,
@@ -108,7 +112,8 @@ def test_rust(uses: str, folder: str, text: bytes, forms: list[bytes]) -> None:
 def test_refusals_in_rust(uses: str, tested: str) -> None:
     for text, line in refusal_lines(tested).items():
         assert run([uses], text) == said(b"", f"{line}\n", 2), text
-    assert run([uses, "/none"]) == said(b"", "No such file or directory (os error 2)\n", 4), "a missing file"
+    for name, cause in [("/none", "No such file or directory (os error 2)"), ("/", "Is a directory (os error 21)")]:
+        assert run([uses, name]) == said(b"", f"{name}: {cause}\n", 4)
 
 
 @pytest.mark.parametrize("text", [FLOWS, b"p sp 1 1\nq\n"], ids=["accepted", "refused"])
@@ -117,19 +122,23 @@ def test_memcheck_of_rust(uses: str, text: bytes) -> None:
     assert run([*MEMCHECK, uses], text) == run([uses], text)
 
 
-@pytest.mark.parametrize("is_static", ["0", "1"])
-def test_cargo(c_library: str, folder: str, is_static: str) -> None:
-    """cargo builds a program that depends on the crate `dnorm`, from both libraries."""
+@pytest.mark.parametrize("is_static, members", WORKSPACES)
+def test_cargo(c_library: str, folder: str, is_static: str, members: list[str]) -> None:
+    """cargo builds a program that depends on the crate `dnorm`, from both libraries. Its workspace may have the crates as
+    members, or merely below its root."""
     if not shutil.which("cargo"):
         pass_over("cargo")
     for name in ["dnorm", "dnorm-sys"]:
         shutil.copytree(f"{CRATES}/{name}", name)
     os.makedirs("reads/src")
     shutil.copy(f"{ROOT}/tests/library/library.rs", "reads/src/main.rs")
-    manifest = '[package]\nname = "reads"\nversion = "0.1.0"\nedition = "2021"\n\n[workspace]\n'
+    manifest = '[package]\nname = "reads"\nversion = "0.1.0"\nedition = "2021"\n'
     write("reads/Cargo.toml", f'{manifest}\n[dependencies]\ndnorm = {{ path = "../dnorm" }}\n')
+    with open("Cargo.toml" if members else "reads/Cargo.toml", "a", encoding="utf-8") as root:
+        root.write(f"[workspace]\nmembers = {members}\n")
     own = {"DNORM_LIB": f"{c_library}/lib", "DNORM_STATIC": is_static, "LD_LIBRARY_PATH": f"{c_library}/lib"}
     environment = {**os.environ, **own, "CARGO_TARGET_DIR": f"{folder}/target"}
-    assert run(["cargo", "build", "--quiet", "--offline"], cwd="reads", env=environment) == said()
+    for it in [*members, "reads"]:
+        assert run(["cargo", "build", "--quiet", "--offline"], cwd=it, env=environment) == said(), it
     text, *forms = CANONICAL[0]
     assert run(["target/debug/reads"], text, env=environment) == said(b"".join(forms))
