@@ -1,6 +1,7 @@
 """How programs find the library for C: by CMake, and by the crates for Rust in share/rust, which declare what dnorm.h
-does."""
+does. These and all other Rust of the repository need no later Rust than that of Debian 12."""
 
+import glob
 import os
 import re
 import shutil
@@ -29,6 +30,14 @@ MEMCHECK += ["--show-leak-kinds=definite"]
 # Whether a program in Rust is linked with the archive, and the members of a workspace that has the crates below its
 # root; without members, the program is a workspace beside the crates.
 WORKSPACES = [("0", []), ("1", []), ("0", ["reads"]), ("1", ["dnorm-sys", "dnorm", "reads"])]
+
+# What compiles for Rust 1.63: Debian's rustc, or clippy, which names what the standard library has had only since then.
+OLDEST: dict[str, list[str]] = {"/usr/bin/rustc": [], "clippy-driver": ["-Aclippy::all", "-Dclippy::incompatible_msrv"]}
+# Sources in Rust, the crates first, with the crates that they use.
+LIBRARIES: dict[str, list[str]] = {f"{CRATES}/dnorm-sys/src/lib.rs": [], f"{CRATES}/dnorm/src/lib.rs": ["dnorm_sys"]}
+PROGRAMS: dict[str, list[str]] = {it: [] for it in sorted(glob.glob(f"{ROOT}/bench/**/*.rs", recursive=True))}
+PROGRAMS |= {it: ["dnorm"] for it in (f"{ROOT}/c/examples/push_relabel.rs", f"{ROOT}/tests/library/library.rs")}
+PROGRAMS[f"{CRATES}/dnorm-sys/build.rs"] = []
 
 # Versions that a project asks for, where the library's is MAJOR.MINOR.x, by whether CMake finds them.
 ASKED = {
@@ -100,6 +109,20 @@ def uses(c_library: str, tmp_path_factory: pytest.TempPathFactory) -> str:
     ]:
         assert run([*rustc, *words]) == said(), words
     return f"{folder}/library"
+
+
+@pytest.mark.parametrize("compiler", OLDEST)
+def test_oldest_rust(folder: str, compiler: str) -> None:
+    if not shutil.which(compiler):
+        pass_over(compiler)
+    write("clippy.toml", 'msrv = "1.63"\n')
+    environment = {**os.environ, "CLIPPY_CONF_DIR": folder}
+    common = [compiler, "--edition=2021", "--emit=metadata", "-Dwarnings", *OLDEST[compiler], "-L."]
+    for path, used in [*LIBRARIES.items(), *PROGRAMS.items()]:
+        name = os.path.relpath(path, CRATES).partition("/")[0].replace("-", "_")
+        words = ["--crate-type=rlib", f"--crate-name={name}"] if path in LIBRARIES else []
+        words += [f"--extern={it}=lib{it}.rmeta" for it in used]
+        assert run([*common, *words, path], env=environment) == said(), path
 
 
 @pytest.mark.parametrize("text, forms", GIVEN, ids=[f"{it[0]!r:.60}" for it in GIVEN])
