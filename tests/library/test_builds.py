@@ -27,9 +27,14 @@ TYPES = {"uint8_t": "u8", "uint32_t": "u32", "uint64_t": "u64", "int64_t": "i64"
 MEMCHECK = ["valgrind", "-q", "--error-exitcode=9", "--leak-check=full", "--errors-for-leak-kinds=definite"]
 MEMCHECK += ["--show-leak-kinds=definite"]
 
-# Whether a program in Rust is linked with the archive, and the members of a workspace that has the crates below its
-# root; without members, the program is a workspace beside the crates.
-WORKSPACES = [("0", []), ("1", []), ("0", ["reads"]), ("1", ["dnorm-sys", "dnorm", "reads"])]
+# What tells cargo where the library is, below the prefix; whether the archive is linked; and the members of a workspace
+# that has the crates below its root. Without members, the program is a workspace beside the crates.
+WORKSPACES = [
+    ("DNORM_LIB=/lib", "0", []),
+    ("PKG_CONFIG_PATH=/lib/pkgconfig", "1", []),
+    ("PKG_CONFIG_PATH=/lib/pkgconfig", "0", ["reads"]),
+    ("DNORM_LIB=/lib", "1", ["dnorm-sys", "dnorm", "reads"]),
+]
 
 # What compiles for Rust 1.63: Debian's rustc, or clippy, which names what the standard library has had only since then.
 OLDEST: dict[str, list[str]] = {"/usr/bin/rustc": [], "clippy-driver": ["-Aclippy::all", "-Dclippy::incompatible_msrv"]}
@@ -145,8 +150,8 @@ def test_memcheck_of_rust(uses: str, text: bytes) -> None:
     assert run([*MEMCHECK, uses], text) == run([uses], text)
 
 
-@pytest.mark.parametrize("is_static, members", WORKSPACES)
-def test_cargo(c_library: str, folder: str, is_static: str, members: list[str]) -> None:
+@pytest.mark.parametrize("place, is_static, members", WORKSPACES)
+def test_cargo(c_library: str, folder: str, place: str, is_static: str, members: list[str]) -> None:
     """cargo builds a program that depends on the crate `dnorm`, from both libraries. Its workspace may have the crates as
     members, or merely below its root."""
     if not shutil.which("cargo"):
@@ -159,7 +164,9 @@ def test_cargo(c_library: str, folder: str, is_static: str, members: list[str]) 
     write("reads/Cargo.toml", f'{manifest}\n[dependencies]\ndnorm = {{ path = "../dnorm" }}\n')
     with open("Cargo.toml" if members else "reads/Cargo.toml", "a", encoding="utf-8") as root:
         root.write(f"[workspace]\nmembers = {members}\n")
-    own = {"DNORM_LIB": f"{c_library}/lib", "DNORM_STATIC": is_static, "LD_LIBRARY_PATH": f"{c_library}/lib"}
+    need("pkg-config")
+    name, _, below = place.partition("=")
+    own = {name: f"{c_library}{below}", "DNORM_STATIC": is_static, "LD_LIBRARY_PATH": f"{c_library}/lib"}
     environment = {**os.environ, **own, "CARGO_TARGET_DIR": f"{folder}/target"}
     for it in [*members, "reads"]:
         assert run(["cargo", "build", "--quiet", "--offline"], cwd=it, env=environment) == said(), it

@@ -15,7 +15,7 @@ import pytest
 from bound import FUNCTIONS, WRONG_CALL
 from builds import GIVEN, compiled, refusal_lines, sentences_of, version_of
 from known import CANONICAL, COSTS, FLOWS, ROADS, ROADS_CANON
-from needs import need, need_proc, pass_over
+from needs import leave_out, need, need_proc, pass_over
 from refusal_table import refusals
 from shared import ROOT, run, said, text_of, write
 
@@ -103,6 +103,20 @@ STARS = {
     b"p aux sp ss 0\n": ("40 WrongCall: The handle is not for this call.\n",) * 2 + (2,),
 }
 
+
+# The compilers of the solvers in c/examples, and texts with what the solvers print and their status; FULL is a standard
+# output that takes nothing.
+FULL = "/dev/full"
+COMPILERS = {"dijkstra.c": ["cc", "-std=c99"], "least_cost.cc": ["c++", "-std=c++17"]}
+UNMET = b"p min 2 1\nn 1 %d\nn 2 %d\na 1 2 0 4 2\n"
+SOLVED = [
+    ("dijkstra.c", ROADS.replace(b" -5", b" 5"), "-", b"node 2, distance 3\nnode 1, distance 0\n", 0),
+    ("dijkstra.c", ROADS.replace(b" -5", b" 5"), FULL, b"", 4),
+    ("least_cost.cc", UNMET % (2, -2), "-", b"least cost 4\nflow 1 2 2\n", 0),
+    ("least_cost.cc", UNMET % (2, -2), FULL, b"", 4),
+    ("least_cost.cc", UNMET % (2, -1), "-", b"no flow\n", 1),
+    ("least_cost.cc", UNMET % (1, -2), "-", b"no flow\n", 1),
+]
 
 # What library.c does: its arguments, what it prints, and what watches it.
 CALLS = [
@@ -285,6 +299,20 @@ def test_wrong_use(c_library: str, name: str) -> None:
         ran = run(["c++", "-std=c++17", "-fsyntax-only", f"-I{c_library}/include", "wrong.cc"])
         statuses.append(ran.status != 0)
     assert statuses == [True, False], "whether the wrong and the right use are refused"
+
+
+@pytest.mark.parametrize("name, text, to, out, status", SOLVED)
+def test_solvers(c_library: str, name: str, text: bytes, to: str, out: bytes, status: int) -> None:
+    """The solvers of c/examples say that there is no flow, and that their output failed."""
+    if name == "least_cost.cc" and not os.path.exists("/usr/include/lemon/network_simplex.h"):
+        leave_out("LEMON")
+    words = [f"-I{c_library}/include", "-o", "solve", f"{ROOT}/c/examples/{name}", f"{c_library}/lib/libdnorm.a"]
+    compiled(*COMPILERS[name], *words)
+    write("text", text)
+    write("points", b"p aux sp co 0\n")
+    words = ["./solve", "text", *["points", "1", "2"] * name.startswith("dijkstra")]
+    ran = run(["sh", "-c", f'exec "$@" > {to}', "sh", *words] if to == FULL else words)
+    assert (ran.out, ran.status, ran.err != b"") == (out, status, to == FULL)
 
 
 def test_plugin(c_library: str, folder: str) -> None:
