@@ -152,8 +152,8 @@ def test_memcheck_of_rust(uses: str, text: bytes) -> None:
 
 @pytest.mark.parametrize("place, is_static, members", WORKSPACES)
 def test_cargo(c_library: str, folder: str, place: str, is_static: str, members: list[str]) -> None:
-    """cargo builds a program that depends on the crate `dnorm`, from both libraries. Its workspace may have the crates as
-    members, or merely below its root."""
+    """cargo builds a program that depends on the crate `dnorm`, from both libraries. Its workspace may have the crates
+    as members, or merely below its root."""
     if not shutil.which("cargo"):
         pass_over("cargo")
     for name in ["dnorm", "dnorm-sys"]:
