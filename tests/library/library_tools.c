@@ -3,7 +3,7 @@
        tools codes               the name and the sentence of each number of 8 bits
        tools read HOW [PATH]     reads a text by HOW: path, or fd and file, of standard input without PATH. Prints what
                                  the status means, and if it is none, the canonical text by dnorm_write
-       tools once PATH           reads a text from a file, and prints its canonical text
+       tools once PATH           reads a text from a file, and prints its canonical text, if the file is closed again
        tools signals             reads a text whose bytes come one by one, while signals interrupt the reads
        tools broken              reads two texts from a stream that fails after its first bytes, and writes texts to
                                  streams that fail

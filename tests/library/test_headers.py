@@ -376,8 +376,8 @@ def test_large_star(tools: str, tested: str) -> None:
 
 
 def is_kept(fifo: str, tools: str) -> bool:
-    """Whether a file that is read by its name would not be passed on to another program. It is a pipe with a name, so
-    that it is open until the text is written."""
+    """Whether a file that is read by its name would not be passed on to another program, and is closed. It is a pipe with
+    a name, so that it is open until the text is written."""
     os.mkfifo(fifo)
     with subprocess.Popen([tools, "once", fifo], stdout=subprocess.PIPE) as process:
         with open(fifo, "wb") as text:
@@ -387,7 +387,7 @@ def is_kept(fifo: str, tools: str) -> bool:
                 own = [it for it in os.listdir(f"{folder}/fd") if os.path.realpath(f"{folder}/fd/{it}") == fifo]
             flags = [int(text_of(f"{folder}/fdinfo/{it}").split()[3], 8) for it in own]
             text.write(ROADS)
-        is_read = process.communicate()[0] == ROADS_CANON
+        is_read = process.communicate()[0] == ROADS_CANON and process.returncode == 0
         return is_read and len(flags) == 1 and flags[0] & os.O_CLOEXEC != 0
 
 
