@@ -5,8 +5,8 @@
                                  the status means, and if it is none, the canonical text by dnorm_write
        tools once PATH           reads a text from a file, and prints its canonical text, if the file is closed again
        tools signals             reads a text whose bytes come one by one, while signals interrupt the reads
-       tools broken              reads two texts from a stream that fails after its first bytes, and writes texts to
-                                 streams that fail
+       tools broken              reads two texts from a stream that fails after its first bytes, and a fault from a pipe
+                                 that stays open, and writes texts to streams that fail
        tools star FORM           prints where the arcs of each node of standard input begin, and the columns
        tools narrow FORM ROOM    prints the columns of 32 bits of standard input, copied in ranges of ROOM arcs, and the
                                  first arc that does not fit them */
@@ -163,6 +163,20 @@ static bool writes_fail(void) {
     return are_right;
 }
 
+/* Whether a fault ends the reading of a pipe that stays open. */
+static bool ends_early(void) {
+    dnorm graph = DNORM_NONE;
+    dnorm_status status;
+    int ends[2];
+    if (pipe(ends) || write(ends[1], "x\n", 2) != 2) return false;
+    alarm(10);
+    status = dnorm_read_fd(&graph, ends[0]);
+    alarm(0);
+    dnorm_free(&graph);
+    close(ends[0]), close(ends[1]);
+    return status.code == DNORM_BAD_LINE;
+}
+
 static int broken(void) {
     char texts[2][12] = {"p sp 1 1\n", "p sp 1 1\nq\n"};
     for (int i = 0; i < 2; i++) {
@@ -173,7 +187,7 @@ static int broken(void) {
         fclose(file);
         dnorm_free(&graph);
     }
-    return writes_fail() ? 0 : 1;
+    return writes_fail() && ends_early() ? 0 : 1;
 }
 
 static int star(uint8_t form) {

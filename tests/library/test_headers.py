@@ -376,8 +376,8 @@ def test_large_star(tools: str, tested: str) -> None:
 
 
 def is_kept(fifo: str, tools: str) -> bool:
-    """Whether a file that is read by its name would not be passed on to another program, and is closed. It is a pipe with
-    a name, so that it is open until the text is written."""
+    """Whether a file that is read by its name would not be passed on to another program, and is closed. It is a pipe
+    with a name, so that it is open until the text is written."""
     os.mkfifo(fifo)
     with subprocess.Popen([tools, "once", fifo], stdout=subprocess.PIPE) as process:
         with open(fifo, "wb") as text:
