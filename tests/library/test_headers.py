@@ -55,6 +55,44 @@ int main(void) {
     return dnorm_next(&graph, 1, &first, &arc, 1).code == DNORM_WRONG_CALL ? 0 : DNORM_VERSION;
 }
 """
+# Functions in place of the library's, which count what the macros of dnorm.h must not give them.
+MACROS = """
+#include <dnorm.h>
+static const dnorm_count none;
+static const dnorm_status fine;
+static int wrong;
+dnorm_status (dnorm_feed)(dnorm *it, const uint8_t *bytes, size_t length) { wrong += !bytes; return fine; }
+dnorm_count (dnorm_next)(const dnorm *it, uint8_t form, dnorm_place *place, dnorm_arc *out, size_t room) {
+    wrong += !out;
+    return none;
+}
+dnorm_count (dnorm_columns)(const dnorm *it, uint8_t form, dnorm_place *place, int64_t *tails, size_t tails_room,
+                            int64_t *heads, size_t heads_room, int64_t *a, size_t a_room, int64_t *b, size_t b_room,
+                            int64_t *c, size_t c_room) {
+    wrong += !tails + !heads + !a + !b + !c;
+    return none;
+}
+dnorm_count (dnorm_items)(const dnorm *it, dnorm_place *place, dnorm_item *out, size_t room) {
+    wrong += !out;
+    return none;
+}
+dnorm_status (dnorm_canon)(const dnorm *it, uint8_t form, dnorm *text) { wrong += it == text; return fine; }
+dnorm_count (dnorm_text)(const dnorm *it, size_t from, uint8_t *out, size_t room) { wrong += !out; return none; }
+dnorm_count (dnorm_name)(const dnorm *it, uint8_t *out, size_t room) { wrong += !out; return none; }
+void (dnorm_free)(dnorm *it) { wrong += !it; }
+int main(void) {
+    dnorm it = DNORM_NONE;
+    dnorm_place place = DNORM_FIRST;
+    dnorm_feed(&it, NULL, 0);
+    dnorm_next(&it, 1, &place, NULL, 0);
+    dnorm_columns(&it, 1, &place, NULL, 0, NULL, 0, NULL, 0, NULL, 0, NULL, 0);
+    dnorm_items(&it, &place, NULL, 0);
+    dnorm_text(&it, 0, NULL, 0);
+    dnorm_name(&it, NULL, 0);
+    dnorm_free(NULL);
+    return wrong + (dnorm_canon(&it, 1, &it).code != DNORM_WRONG_CALL);
+}
+"""
 # A part of another file of a program.
 OTHER = "int other(void);\nint other(void) {\n    return dnorm_code_name(1)[0];\n}\n"
 # Statements of C++, with what does not compile in them and what does; `text` is a std::string_view, `name` a
@@ -287,6 +325,13 @@ def test_two_files(c_library: str, words: str, header: str) -> None:
     more = ["-o", "two", f"uses.{end}", f"other.{end}", f"{c_library}/lib/libdnorm.a"]
     compiled(*words.split(), f"-I{c_library}/include", *more)
     assert run(["./two"]) == said()
+
+
+def test_macros(c_library: str) -> None:
+    """By the macros of dnorm.h, no function gets a null pointer, nor its own text."""
+    write("macros.c", MACROS)
+    compiled("cc", "-std=c99", "-Wno-unused-parameter", f"-I{c_library}/include", "-o", "macros", "macros.c")
+    assert run(["./macros"]) == said()
 
 
 @pytest.mark.parametrize("name", WRONG)
