@@ -99,7 +99,7 @@ def test_version_of_crate(tested: str, name: str) -> None:
 
 @pytest.fixture(scope="module")
 def uses(c_library: str, tmp_path_factory: pytest.TempPathFactory) -> str:
-    """A program of library.rs and the crates, built by rustc alone."""
+    """A program of library.rs and the crates, built by rustc alone. The solver in Rust is beside it."""
     if not shutil.which("rustc"):
         # tools/setup does not install Rust.
         pass_over("rustc")
@@ -111,6 +111,7 @@ def uses(c_library: str, tmp_path_factory: pytest.TempPathFactory) -> str:
         ["--crate-type", "rlib", *native, f"{CRATES}/dnorm-sys/src/lib.rs"],
         ["--crate-type", "rlib", "--crate-name", "dnorm", "--extern", sys_crate, f"{CRATES}/dnorm/src/lib.rs"],
         ["--extern", crate, f"{ROOT}/tests/library/library.rs"],
+        ["--extern", crate, f"{ROOT}/c/examples/push_relabel.rs"],
     ]:
         assert run([*rustc, *words]) == said(), words
     return f"{folder}/library"
@@ -128,6 +129,14 @@ def test_oldest_rust(folder: str, compiler: str) -> None:
         words = ["--crate-type=rlib", f"--crate-name={name}"] if path in LIBRARIES else []
         words += [f"--extern={it}=lib{it}.rmeta" for it in used]
         assert run([*common, *words, path], env=environment) == said(), path
+
+
+def test_solver_in_rust(uses: str, folder: str) -> None:
+    write("pipes", b"p max 3 2\nn 1 s\nn 3 t\na 1 2 7\na 2 3 5\n")
+    words = [f"{os.path.dirname(uses)}/push_relabel", "pipes"]
+    assert run(words) == said("greatest flow 5\n")
+    full = run(["sh", "-c", 'exec "$@" > /dev/full', "sh", *words])
+    assert full == said(b"", "No space left on device (os error 28)\n", 2)
 
 
 @pytest.mark.parametrize("text, forms", GIVEN, ids=[f"{it[0]!r:.60}" for it in GIVEN])
