@@ -86,6 +86,9 @@ fn read_in_pieces(text: &[u8], size: usize) -> Result<Instance, Refusal> {
 fn check_arcs(instance: &Instance, form: Form) {
     let arcs: Vec<Arc> = instance.arcs(form).collect();
     assert_eq!(arcs.len(), instance.arc_count(form));
+    let mut pairs: Vec<_> = arcs.iter().map(|it| (it.tail, it.head)).collect();
+    pairs.dedup();
+    assert_eq!(pairs.len() as u64, instance.pairs());
     let columns = instance.columns(form);
     for (at, arc) in arcs.iter().enumerate() {
         let further = |column: &[i64]| column.get(at).copied().unwrap_or(0);
