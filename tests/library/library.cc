@@ -1,7 +1,7 @@
 // Writes the canonical text of standard input in both forms, by the classes of dnorm.hpp, after the instance was moved;
 // a refusal is a line on standard error. The status is 2 for a refused text. With an argument, the text is in the file
-// of this name, or in standard input for `-`, and the cause is printed if it cannot be read. The status is 1 if calls
-// do not agree, or if one that must fail does not.
+// of this name, or in standard input for `-`, and the cause is printed if it cannot be read. The status is 5 without
+// memory, and 1 if calls do not agree, or if one that must fail does not.
 #include "dnorm.hpp"
 #include <atomic>
 #include <cstdio>
@@ -293,4 +293,6 @@ int main(int count, char **words) try {
 } catch (const std::system_error &why) {
     std::cerr << why.what() << '\n';
     return 4;
+} catch (const std::bad_alloc &) {
+    return 5;
 }

@@ -7,7 +7,7 @@ import re
 import shutil
 
 import pytest
-from builds import GIVEN, PROJECT, by_cmake, need_cmake, refusal_lines, version_of
+from builds import GIVEN, PROJECT, by_cmake, need_cmake, refusal_lines, sentences_of, version_of, with_little_memory
 from known import CANONICAL, FLOWS
 from needs import need, pass_over
 from shared import ROOT, run, said, text_of, write
@@ -131,6 +131,11 @@ def test_oldest_rust(folder: str, compiler: str) -> None:
         assert run([*common, *words, path], env=environment) == said(), path
 
 
+def test_memory_in_rust(uses: str, tested: str, folder: str) -> None:
+    refused = said(b"", f"30 {sentences_of(tested)[30]}\n", 2)
+    assert with_little_memory(uses) == [said("p sp 1 0\n"), refused]
+
+
 def test_solver_in_rust(uses: str, folder: str) -> None:
     write("pipes", b"p max 3 2\nn 1 s\nn 3 t\na 1 2 7\na 2 3 5\n")
     words = [f"{os.path.dirname(uses)}/push_relabel", "pipes"]
@@ -173,7 +178,7 @@ def test_cargo(c_library: str, folder: str, place: str, is_static: str, members:
     write("reads/Cargo.toml", f'{manifest}\n[dependencies]\ndnorm = {{ path = "../dnorm" }}\n')
     with open("Cargo.toml" if members else "reads/Cargo.toml", "a", encoding="utf-8") as root:
         root.write(f"[workspace]\nmembers = {members}\n")
-    need("pkg-config")
+    need("pkg-config", "readelf")
     name, _, below = place.partition("=")
     own = {name: f"{c_library}{below}", "DNORM_STATIC": is_static, "LD_LIBRARY_PATH": f"{c_library}/lib"}
     environment = {**os.environ, **own, "CARGO_TARGET_DIR": f"{folder}/target"}
@@ -181,3 +186,4 @@ def test_cargo(c_library: str, folder: str, place: str, is_static: str, members:
         assert run(["cargo", "build", "--quiet", "--offline"], cwd=it, env=environment) == said(), it
     text, *forms = CANONICAL[0]
     assert run(["target/debug/reads"], text, env=environment) == said(b"".join(forms))
+    assert (b"libdnorm.so" in run(["readelf", "-d", "target/debug/reads"]).out) == (is_static == "0")

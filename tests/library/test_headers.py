@@ -13,7 +13,7 @@ import subprocess
 
 import pytest
 from bound import FUNCTIONS, WRONG_CALL
-from builds import GIVEN, compiled, refusal_lines, sentences_of, version_of
+from builds import GIVEN, compiled, refusal_lines, sentences_of, version_of, with_little_memory
 from known import CANONICAL, COSTS, FLOWS, ROADS, ROADS_CANON
 from needs import leave_out, need, need_proc, pass_over
 from refusal_table import refusals
@@ -285,14 +285,20 @@ def test_refusals_in_cpp(in_cpp: str, tested: str) -> None:
         assert run([in_cpp], text) == said(b"", f"code {line.split(': ')[1].split()[0]}: {line}\n", 2), text
 
 
-def test_files_in_cpp(in_cpp: str, folder: str) -> None:
+def test_files_in_cpp(in_cpp: str, tested: str, folder: str) -> None:
     write("text", ROADS)
     assert run([in_cpp, "text"]) == said(ROADS_CANON)
+    write("text", b"p sp 1 1\nq\n")
+    assert run([in_cpp, "text"]) == said(b"", f"line 2: 5 {sentences_of(tested)[5]}\n", 2)
     assert run([in_cpp, "-"], ROADS) == said(ROADS_CANON)
     for name, cause in {"none": "No such file or directory", folder: "Is a directory"}.items():
         assert run([in_cpp, name]) == said(b"", f"{name}: {cause}\n", 4)
     failed = run(["sh", "-c", 'exec "$1" - < /', "sh", in_cpp])
     assert failed.status == 4 and b"the stream cannot be read" in failed.err
+
+
+def test_memory_in_cpp(in_cpp: str, folder: str) -> None:
+    assert with_little_memory(in_cpp) == [said("p sp 1 0\n"), said(status=5)]
 
 
 @pytest.mark.parametrize("text", [FLOWS, b"p sp 1 1\nq\n"], ids=["accepted", "refused"])
