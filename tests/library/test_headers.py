@@ -5,6 +5,7 @@ library.c tries orders of calls, failing allocations and threads, and counts wha
 inline functions of dnorm_tools.h, and library.cc the classes. valgrind finds no fault in these. The headers compile
 without a warning in each standard, and beside R's macro `dnorm`."""
 
+import bisect
 import ctypes
 import os
 import re
@@ -414,6 +415,22 @@ def test_star(tools: str, text: bytes) -> None:
     is_made = status == 0 or star.startswith("0 ")
     check([tools, "star", "1"], star, ["memcheck"] * (text in [ROADS, COSTS]), 0 if is_made else 2, text)
     assert run([tools, "narrow", "1", "2"], text) == said(columns, status=status), "columns of 32 bits"
+
+
+def star_of(canonical: bytes) -> str:
+    """Returns what library_tools.c prints of the forward star of a canonical text of a graph."""
+    rows = [it.split() for it in canonical.decode().splitlines()]
+    arcs = [it[1:] for it in rows if it[0] == "a"]
+    tails = [int(it[0]) for it in arcs]
+    first = "".join(f"{bisect.bisect_right(tails, node)} " for node in range(int(rows[0][2]) + 1))
+    return "\n".join([first, *(" ".join(it[1:]) for it in arcs), ""])
+
+
+def test_forms_of_stars(tools: str) -> None:
+    for text, forms in GIVEN:
+        if re.match(rb"p (min|max|sp) \d{1,5} ", forms[0]):
+            for form, canonical in enumerate(forms, 1):
+                assert run([tools, "star", str(form)], text) == said(star_of(canonical)), f"{text!r:.60}"
 
 
 def test_large_star(tools: str, tested: str) -> None:
