@@ -112,7 +112,7 @@ impl Text {
         if self.odd && self.random.one_in(8) {
             let zeros = self.random.below(4) as usize;
             self.line.push(if n < 0 { b'-' } else { b'+' });
-            self.line.extend(std::iter::repeat_n(b'0', zeros));
+            self.line.extend(std::iter::repeat(b'0').take(zeros));
             write!(self.line, "{}", n.unsigned_abs()).unwrap();
         } else {
             write!(self.line, "{n}").unwrap();
@@ -588,7 +588,7 @@ fn hostile_sp(text: &mut Text, random: &mut Random, kind: &str, n: u64) {
         "ring16" => ring(random, n, 16),
         "again" => again(random, n),
         "dense" => {
-            let side = n.isqrt() as i64;
+            let side = (1..).take_while(|it| it * it <= n).count() as i64;
             let column = |head| (1..=side).map(move |tail| (tail, head));
             (1..=side).flat_map(column).collect()
         }

@@ -206,8 +206,8 @@ typedef struct dnorm_difference {
     uint64_t index;
     /* The least amount at which the least costs of a pair differ (DNORM_PAIR_DIFFERS of `min`); 0 otherwise. */
     int64_t amount;
-    /* The values of the left and of the right instance: the kind, NODES, the flow, the source or the sink, the number of
-       items; of a pair, the least length, which is not known without an arc, the capacity, or the least cost of the
+    /* The values of the left and of the right instance: the kind, NODES, the flow, the source or the sink, the number
+       of items; of a pair, the least length, which is not known without an arc, the capacity, or the least cost of the
        amount, which is not known if the amount is infeasible. Items and points have none. */
     dnorm_value left, right;
 } dnorm_difference;
@@ -219,8 +219,8 @@ enum { DNORM_FITS = 0, DNORM_NOT_IN_GRAPH = 35, DNORM_NOT_KINDS = 36 };
 typedef struct dnorm_fit {
     /* DNORM_FITS, or why not; DNORM_NOT_BOTH if there are no two instances. */
     uint8_t code;
-    /* The first node that is not in the graph (DNORM_NOT_IN_GRAPH): in the order of the text for `ss` and `p2p`, and the
-       least for `co`; 0 otherwise. */
+    /* The first node that is not in the graph (DNORM_NOT_IN_GRAPH): in the order of the text for `ss` and `p2p`, and
+       the least for `co`; 0 otherwise. */
     int64_t node;
 } dnorm_fit;
 
@@ -241,7 +241,8 @@ dnorm_status dnorm_finish(dnorm *reader);
    for any other `dnorm`. */
 dnorm_summary dnorm_facts(const dnorm *any);
 
-/* Counts the canonical arcs in form 1 or 2. Any form but 2 is form 1, and forms matter only for `min`.
+/* Counts the canonical arcs in form 1 or 2. Any form but 2 is form 1. Forms matter only for `min`: form 1 has separate
+   arcs for forced units and for free capacity, and form 2 has one arc for each cost of a pair.
    Codes: DNORM_FINE; DNORM_COUNT_TOO_LARGE if there are 2^64 arcs or more; DNORM_WRONG_CALL if there is no graph. */
 dnorm_count dnorm_arc_count(const dnorm *graph, uint8_t form);
 

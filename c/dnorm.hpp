@@ -3,28 +3,29 @@
 //     Instance            an instance that a text was read as: what it is, its arcs and items, its canonical text
 //     Path, Descriptor    where a text is that an instance is read from: a file, or an open one
 //     Reader              reads a text that comes in pieces
-//     Arcs                the canonical arcs of an instance one after another, without a copy of all
 //     write               writes a text of items and arcs
 //     Refused             why there is no instance or no text, where that is thrown; out of memory is std::bad_alloc
 //
 // Instance and Reader free what they own, can be moved and not copied, and keep the rules of dnorm.h. The const members
-// of one Instance may be called by several threads at the same time. A call with a `dnorm_status &` throws nothing but
-// std::bad_alloc, and sets that to the code of the call, which is DNORM_MEMORY where the library has no memory.
+// of one Instance may be called by several threads at the same time. Any call of an Instance that was moved from, a
+// call for the arcs of a companion, and a piece for a Reader that has ended throw Refused with the code
+// DNORM_WRONG_CALL. A call with a `dnorm_status &` throws no Refused, and sets that to the code of the call, which is
+// DNORM_MEMORY where the library has no memory.
 #ifndef DNORM_HPP
 #define DNORM_HPP
 #include "dnorm.h"
 #include "dnorm_tools.h"
 #include <cerrno>
 #include <cstddef>
-#include <istream>
-#include <iterator>
+#include <cstdio>
+#include <iostream>
 #include <new>
 #include <optional>
-#include <ostream>
 #include <stdexcept>
 #include <string>
 #include <string_view>
 #include <system_error>
+#include <type_traits>
 #include <utility>
 #include <vector>
 
@@ -67,7 +68,8 @@ public:
     Handle() = default;
     Handle(Handle &&other) noexcept : raw(std::exchange(other.raw, DNORM_NONE)) {}
     Handle &operator=(Handle &&other) noexcept {
-        std::swap(raw, other.raw);
+        Handle taken(std::move(other));
+        std::swap(raw, taken.raw);
         return *this;
     }
     Handle(const Handle &) = delete;
@@ -85,14 +87,18 @@ inline void fine(dnorm_status status) {
     if (status.code != DNORM_FINE) throw Refused(status);
 }
 
-inline std::uint8_t form_of(int form) noexcept { return form == 2 ? 2 : 1; }
+inline void fine(std::uint8_t code) { fine(dnorm_status{code, DNORM_NO_PLACE, 0}); }
 
-// How many arcs there are, which is 0 without a graph.
-inline std::size_t arc_count(const dnorm_handle *graph, int form) {
-    dnorm_count found = dnorm_arc_count(graph, form_of(form));
-    if (found.code != DNORM_WRONG_CALL) fine(dnorm_status{found.code, DNORM_NO_PLACE, 0});
+// Throws if a call was not for its handles.
+inline void answered(bool is_answered) { fine(is_answered ? DNORM_FINE : DNORM_WRONG_CALL); }
+
+// How many arcs, items or bytes a call copied or counted.
+inline std::size_t counted(dnorm_count found) {
+    fine(found.code);
     return found.count;
 }
+
+inline std::uint8_t form_of(int form) noexcept { return form == 2 ? 2 : 1; }
 
 // The functions that copy columns of these numbers.
 inline dnorm_count copy(const dnorm_handle *graph, int form, std::vector<std::int64_t> &tails,
@@ -112,77 +118,7 @@ inline dnorm_count copy(const dnorm_handle *graph, int form, std::vector<std::in
 
 } // namespace detail
 
-class Instance;
 class Reader;
-
-// The canonical arcs of an instance in form 1 or 2, for one range-based for. The instance must stay where it is
-// meanwhile. Some arcs are copied at a time.
-class Arcs {
-public:
-    class iterator {
-    public:
-        using iterator_category = std::input_iterator_tag;
-        using value_type = dnorm_arc;
-        using difference_type = std::ptrdiff_t;
-        using pointer = const dnorm_arc *;
-        using reference = const dnorm_arc &;
-        // What `*it++` has: the arc before the step.
-        class Before {
-        public:
-            explicit Before(const dnorm_arc &given) : arc(given) {}
-            reference operator*() const { return arc; }
-
-        private:
-            dnorm_arc arc;
-        };
-
-        explicit iterator(Arcs *of = nullptr) : arcs(of && of->count ? of : nullptr) {}
-        reference operator*() const { return arcs->some[arcs->at]; }
-        pointer operator->() const { return &**this; }
-        iterator &operator++() {
-            if (!arcs->goes_on()) arcs = nullptr;
-            return *this;
-        }
-        Before operator++(int) {
-            Before before(**this);
-            ++*this;
-            return before;
-        }
-        bool operator==(const iterator &other) const { return arcs == other.arcs; }
-        bool operator!=(const iterator &other) const { return arcs != other.arcs; }
-
-    private:
-        Arcs *arcs;
-    };
-
-    // Goes to the first arc.
-    iterator begin() {
-        place = DNORM_FIRST;
-        fill();
-        return iterator(this);
-    }
-    iterator end() { return iterator(); }
-
-private:
-    friend class Instance;
-    const dnorm_handle *graph;
-    int form;
-    std::vector<dnorm_arc> some;
-    dnorm_place place = DNORM_FIRST;
-    std::size_t count = 0, at = 0;
-
-    Arcs(const dnorm_handle *of, int in_form) : graph(of), form(in_form), some(4096) {}
-
-    void fill() {
-        count = dnorm_next(graph, detail::form_of(form), &place, some.data(), some.size()).count;
-        at = 0;
-    }
-
-    bool goes_on() {
-        if (++at == count) fill();
-        return count > 0;
-    }
-};
 
 // Canonical arcs by columns, as dnorm_arc has their numbers. Columns that the kind lacks are empty: b and c of `sp` and
 // `max`.
@@ -202,7 +138,9 @@ struct Star {
 // A parsed instance.
 class Instance {
 public:
-    // Reads a text to its end. Throws Refused, std::bad_alloc, or std::ios_base::failure if the stream fails.
+    // Reads a text to the end of a stream. Throws Refused, std::bad_alloc, or std::ios_base::failure if the stream
+    // fails, or has failed before, as one that could not be opened. Its state does not change, so that no exceptions()
+    // are thrown at the end of the text.
     explicit Instance(std::istream &source);
 
     // Reads a text. Throws Refused or std::bad_alloc.
@@ -210,38 +148,48 @@ public:
 
     // Reads a file to its end: Instance graph{Path(name)}. Throws Refused, std::bad_alloc, or std::system_error if it
     // cannot be read.
-    explicit Instance(const Path &file) { read_file(file.name.c_str()); }
-    explicit Instance(const Descriptor &file) { read_file(file.number); }
+    explicit Instance(const Path &file) { done(read_file(handle, file), file.name.c_str()); }
+    explicit Instance(const Descriptor &file) { done(read_file(handle, file), "a file descriptor"); }
 
-    // A text is a std::string_view, and the name of a file is a Path.
-    explicit Instance(const char *) = delete;
+    // A text is a std::string_view, and the name of a file is a Path: a string could be either.
+    template <typename Other, typename = std::enable_if_t<std::is_convertible_v<const Other &, std::string_view>>>
+    explicit Instance(const Other &) = delete;
 
-    // Reads a text to its end. There is no instance if the text is refused; or if the stream fails, where the code may
-    // be DNORM_FINE; or if the file does, where it is DNORM_READ, and errno has the cause.
+    // Reads a text to its end. There is no instance if the text is refused; or if the file fails, where the code is
+    // DNORM_READ, and errno has the cause. A stream that fails throws std::ios_base::failure.
     static std::optional<Instance> read(std::istream &source, dnorm_status &status);
-    static std::optional<Instance> read(const Path &file, dnorm_status &status) {
-        detail::Handle made;
-        status = dnorm_read_path(made.get(), file.name.c_str());
-        return of(std::move(made), status);
-    }
-    static std::optional<Instance> read(const Descriptor &file, dnorm_status &status) {
-        detail::Handle made;
-        status = dnorm_read_fd(made.get(), file.number);
-        return of(std::move(made), status);
-    }
+    static std::optional<Instance> read(const Path &file, dnorm_status &status) { return from(file, status); }
+    static std::optional<Instance> read(const Descriptor &file, dnorm_status &status) { return from(file, status); }
 
-    // Returns what the instance is. After it was moved from, its kind is DNORM_NO_KIND, and it has no arcs or items.
-    dnorm_summary facts() const noexcept { return dnorm_facts(handle.get()); }
+    // Returns what the instance is.
+    dnorm_summary facts() const {
+        const dnorm_summary found = dnorm_facts(handle.get());
+        detail::answered(found.kind != DNORM_NO_KIND);
+        return found;
+    }
 
     // Returns the number of canonical arcs in form 1 or 2.
-    std::size_t arc_count(int form = 1) const { return detail::arc_count(handle.get(), form); }
+    std::size_t arc_count(int form = 1) const {
+        return detail::counted(dnorm_arc_count(handle.get(), detail::form_of(form)));
+    }
 
     // Returns the canonical arcs in form 1 or 2, all of them.
     std::vector<dnorm_arc> arcs(int form = 1) const {
         std::vector<dnorm_arc> made(arc_count(form));
         dnorm_place place = DNORM_FIRST;
-        dnorm_next(handle.get(), detail::form_of(form), &place, made.data(), made.size());
+        detail::counted(dnorm_next(handle.get(), detail::form_of(form), &place, made.data(), made.size()));
         return made;
+    }
+
+    // Calls `visit` with each canonical arc in form 1 or 2, one after another. Some are copied at a time.
+    template <typename Visit> void for_each_arc(Visit visit, int form = 1) const {
+        dnorm_arc some[DNORM_SOME];
+        dnorm_place place = DNORM_FIRST;
+        std::size_t count = DNORM_SOME;
+        while (count == DNORM_SOME) {
+            count = detail::counted(dnorm_next(handle.get(), detail::form_of(form), &place, some, DNORM_SOME));
+            for (const dnorm_arc *it = some; it != some + count; it++) visit(*it);
+        }
     }
 
     // Returns the canonical arcs in form 1 or 2 by columns, all of them.
@@ -254,27 +202,21 @@ public:
     // std::bad_alloc if there is no memory for so many.
     Star star(int form = 1) const {
         Star made;
-        if (facts().kind == DNORM_NO_KIND || facts().kind > DNORM_SP) return made;
+        size(form, made.heads, made.a, made.b, made.c);
         const std::size_t nodes = static_cast<std::size_t>(facts().nodes);
         if (nodes >= made.first.max_size()) throw std::bad_alloc();
         made.first.resize(nodes + 1);
-        dnorm_first_arcs(handle.get(), detail::form_of(form), made.first.data(), made.first.size());
+        detail::counted(dnorm_first_arcs(handle.get(), detail::form_of(form), made.first.data(), nodes + 1));
         std::vector<std::int64_t> no_tails;
-        size(form, made.heads, made.a, made.b, made.c);
-        detail::copy(handle.get(), form, no_tails, made.heads, made.a, made.b, made.c);
+        detail::counted(detail::copy(handle.get(), form, no_tails, made.heads, made.a, made.b, made.c));
         return made;
     }
-
-    // Returns the canonical arcs in form 1 or 2, to go over them once: for (const dnorm_arc &it : graph.each_arc()).
-    // The arcs of a temporary do not compile, since it would end before the loop.
-    Arcs each_arc(int form = 1) const & { return Arcs(handle.get(), form); }
-    Arcs each_arc(int form = 1) const && = delete;
 
     // Returns what the instance has beside its arcs.
     std::vector<dnorm_item> items() const {
         std::vector<dnorm_item> made(static_cast<std::size_t>(facts().items));
         dnorm_place place = DNORM_FIRST;
-        dnorm_items(handle.get(), &place, made.data(), made.size());
+        detail::counted(dnorm_items(handle.get(), &place, made.data(), made.size()));
         return made;
     }
 
@@ -293,19 +235,23 @@ public:
         if (status.code != DNORM_FINE) return std::nullopt;
         std::string copied;
         std::vector<std::uint8_t> some(65536);
-        while (std::size_t more = dnorm_text(made.get(), copied.size(), some.data(), some.size()).count)
+        while (std::size_t more = detail::counted(dnorm_text(made.get(), copied.size(), some.data(), some.size())))
             copied.append(some.begin(), some.begin() + static_cast<std::ptrdiff_t>(more));
         return copied;
     }
 
     // Returns whether this instance is a graph that the companion fits.
-    dnorm_fit fits(const Instance &companion) const noexcept {
-        return dnorm_fits(handle.get(), companion.handle.get());
+    dnorm_fit fits(const Instance &companion) const {
+        const dnorm_fit found = dnorm_fits(handle.get(), companion.handle.get());
+        detail::answered(found.code != DNORM_NOT_BOTH);
+        return found;
     }
 
     // Returns where this instance and another first differ.
-    dnorm_difference compare(const Instance &other) const noexcept {
-        return dnorm_compare(handle.get(), other.handle.get());
+    dnorm_difference compare(const Instance &other) const {
+        const dnorm_difference found = dnorm_compare(handle.get(), other.handle.get());
+        detail::answered(found.what != DNORM_NOT_BOTH);
+        return found;
     }
 
 private:
@@ -314,13 +260,22 @@ private:
 
     explicit Instance(detail::Handle &&made) noexcept : handle(std::move(made)) {}
 
-    static std::optional<Instance> of(detail::Handle &&made, dnorm_status status) {
+    template <typename File> static std::optional<Instance> from(const File &file, dnorm_status &status) {
+        detail::Handle made;
+        status = read_file(made, file);
         if (status.code != DNORM_FINE) return std::nullopt;
         return Instance(std::move(made));
     }
 
-    void read_file(const char *path) { done(dnorm_read_path(handle.get(), path), path); }
-    void read_file(int fd) { done(dnorm_read_fd(handle.get(), fd), "a file descriptor"); }
+    static dnorm_status read_file(detail::Handle &made, const Path &file) {
+        // The system would open the file whose name is the part before a byte 0.
+        if (file.name.find('\0') == std::string::npos) return dnorm_read_path(made.get(), file.name.c_str());
+        errno = EINVAL;
+        return dnorm_status{DNORM_READ, DNORM_NO_PLACE, 0};
+    }
+    static dnorm_status read_file(detail::Handle &made, const Descriptor &file) {
+        return dnorm_read_fd(made.get(), file.number);
+    }
     static void done(dnorm_status status, const char *name) {
         if (status.code == DNORM_READ) throw std::system_error(errno, std::generic_category(), name);
         detail::fine(status);
@@ -343,6 +298,7 @@ private:
         made.tails.resize(made.heads.size());
         dnorm_count found = detail::copy(handle.get(), form, made.tails, made.heads, made.a, made.b, made.c);
         if (found.code == DNORM_TOO_WIDE) throw std::range_error(dnorm_code_sentence(found.code));
+        detail::counted(found);
         return made;
     }
 };
@@ -384,12 +340,17 @@ private:
 inline std::optional<Instance> Instance::read(std::istream &source, dnorm_status &status) {
     std::vector<char> room(65536);
     Reader reader;
+    // The caller's stream may throw at its end, so another one takes its bytes: none of a stream that has failed.
+    std::istream bytes(source.fail() ? nullptr : source.rdbuf());
+    bytes.tie(source.tie());
     status = dnorm_status{};
-    while (source.read(room.data(), static_cast<std::streamsize>(room.size())) || source.gcount() > 0) {
-        reader.feed({room.data(), static_cast<std::size_t>(source.gcount())}, status);
+    while (bytes.read(room.data(), static_cast<std::streamsize>(room.size())) || bytes.gcount() > 0) {
+        reader.feed({room.data(), static_cast<std::size_t>(bytes.gcount())}, status);
         if (status.code != DNORM_FINE) return std::nullopt;
     }
-    if (source.bad()) return std::nullopt;
+    // Where std::cin reads by stdio, it ends if that fails.
+    if (bytes.bad() || (source.rdbuf() == std::cin.rdbuf() && std::ferror(stdin)))
+        throw std::ios_base::failure("the stream cannot be read");
     return reader.finish(status);
 }
 
@@ -397,7 +358,6 @@ inline Instance::Instance(std::istream &source) {
     dnorm_status status;
     std::optional<Instance> found = read(source, status);
     detail::fine(status);
-    if (!found) throw std::ios_base::failure("the text cannot be read");
     handle = std::move(found->handle);
 }
 
@@ -408,23 +368,18 @@ inline Instance::Instance(std::string_view text) {
 }
 
 // Writes a text of this kind with these items and arcs in their order, as items() and arcs() return them: nodes and
-// arcs are for a graph alone. What it is given is not judged: Instance judges the text. Sets the stream's failbit for a
-// kind that is none.
+// arcs are for a graph alone. What it is given is not judged: Instance judges the text. Throws std::ios_base::failure
+// if the stream does not take all of it, and std::invalid_argument for a kind that is none.
 inline void write(std::ostream &out, std::uint8_t kind, std::int64_t nodes, const std::vector<dnorm_item> &items,
                   const std::vector<dnorm_arc> &arcs = {}) {
     char line[DNORM_LINE];
-    if (!dnorm_problem_line(kind, nodes, kind >= DNORM_SS ? items.size() : arcs.size(), line))
-        return out.setstate(std::ios_base::failbit);
-    out << line;
-    for (const dnorm_item &it : items) {
-        dnorm_item_line(kind, it, line);
-        out << line;
-    }
-    if (kind >= DNORM_SS) return;
-    for (const dnorm_arc &it : arcs) {
-        dnorm_arc_line(kind, it, line);
-        out << line;
-    }
+    const bool is_graph = kind < DNORM_SS;
+    const int length = dnorm_problem_line(kind, nodes, is_graph ? arcs.size() : items.size(), line);
+    if (length == 0) throw std::invalid_argument("this is no kind of a text");
+    out.write(line, length);
+    for (const dnorm_item &it : items) out.write(line, dnorm_item_line(kind, it, line));
+    for (std::size_t i = 0; is_graph && i < arcs.size(); i++) out.write(line, dnorm_arc_line(kind, arcs[i], line));
+    if (!out.flush()) throw std::ios_base::failure("the text cannot be written");
 }
 
 } // namespace dnorm_cpp

@@ -28,6 +28,13 @@ enum {
     DNORM_TOO_WIDE = 41
 };
 
+/* Converts a number, or what malloc returns, as C and C++ do it. */
+#ifdef __cplusplus
+#define DNORM_AS(type, value) static_cast<type>(value)
+#else
+#define DNORM_AS(type, value) ((type)(value))
+#endif
+
 /* How many bytes are read at a time, and how many arcs are copied at a time. */
 #define DNORM_PIECE 16384
 #define DNORM_SOME 512
@@ -93,7 +100,7 @@ DNORM_INLINE dnorm_status dnorm_read_fd(dnorm_handle *graph, int fd) {
     if (status.code != DNORM_FINE) return status;
     while (status.code == DNORM_FINE && length != 0) {
         length = read(fd, bytes, sizeof bytes);
-        if (length > 0) status = dnorm_feed(graph, bytes, (size_t)length);
+        if (length > 0) status = dnorm_feed(graph, bytes, DNORM_AS(size_t, length));
         else if (length < 0 && errno != EINTR) return dnorm_inline_failed(graph);
     }
     return dnorm_finish(graph);
@@ -149,7 +156,7 @@ DNORM_INLINE dnorm_status dnorm_read_path(dnorm_handle *graph, const char *path)
 DNORM_INLINE size_t dnorm_inline_narrow(const int64_t *numbers, size_t count, int32_t *column, size_t room) {
     for (size_t i = 0; i < count && i < room; i++) {
         if (numbers[i] < INT32_MIN || numbers[i] > INT32_MAX) return i;
-        column[i] = (int32_t)numbers[i];
+        column[i] = DNORM_AS(int32_t, numbers[i]);
     }
     return count;
 }
@@ -192,8 +199,8 @@ DNORM_INLINE dnorm_count dnorm_columns_32(const dnorm_handle *graph, uint8_t for
    Codes: those of dnorm_columns. */
 DNORM_INLINE dnorm_count dnorm_first_arcs(const dnorm_handle *graph, uint8_t form, size_t *first, size_t room) {
     int64_t tails[DNORM_SOME];
-    const uint64_t nodes = (uint64_t)dnorm_facts(graph).nodes;
-    const size_t wanted = nodes < room ? (size_t)nodes + 1 : room;
+    const uint64_t nodes = DNORM_AS(uint64_t, dnorm_facts(graph).nodes);
+    const size_t wanted = nodes < room ? DNORM_AS(size_t, nodes) + 1 : room;
     size_t arcs = 0;
     dnorm_place place = DNORM_FIRST;
     dnorm_count made = {0, DNORM_FINE}, some;
@@ -201,7 +208,8 @@ DNORM_INLINE dnorm_count dnorm_first_arcs(const dnorm_handle *graph, uint8_t for
         some = dnorm_columns(graph, form, &place, tails, DNORM_SOME, NULL, 0, NULL, 0, NULL, 0, NULL, 0);
         if (some.code != DNORM_FINE) return some;
         for (size_t i = 0; i < some.count; i++)
-            for (; made.count < wanted && made.count < (uint64_t)tails[i]; made.count++) first[made.count] = arcs + i;
+            for (; made.count < wanted && made.count < DNORM_AS(uint64_t, tails[i]); made.count++)
+                first[made.count] = arcs + i;
         arcs += some.count;
     } while (some.count == DNORM_SOME);
     for (; made.count < wanted; made.count++) first[made.count] = arcs;
@@ -248,18 +256,18 @@ DNORM_INLINE dnorm_status dnorm_star_make(const dnorm_handle *graph, uint8_t for
     if (arcs.code != DNORM_FINE) return status;
     made.nodes = facts.nodes;
     made.arcs = arcs.count;
-    if ((uint64_t)facts.nodes < SIZE_MAX / sizeof(size_t))
-        made.first = (size_t *)malloc(((size_t)facts.nodes + 1) * sizeof(size_t));
-    made.heads = (int64_t *)malloc(size);
-    made.a = (int64_t *)malloc(size);
-    made.b = has_all ? (int64_t *)malloc(size) : NULL;
-    made.c = has_all ? (int64_t *)malloc(size) : NULL;
+    if (DNORM_AS(uint64_t, facts.nodes) < SIZE_MAX / sizeof(size_t))
+        made.first = DNORM_AS(size_t *, malloc((DNORM_AS(size_t, facts.nodes) + 1) * sizeof(size_t)));
+    made.heads = DNORM_AS(int64_t *, malloc(size));
+    made.a = DNORM_AS(int64_t *, malloc(size));
+    made.b = has_all ? DNORM_AS(int64_t *, malloc(size)) : NULL;
+    made.c = has_all ? DNORM_AS(int64_t *, malloc(size)) : NULL;
     if (!made.first || !made.heads || !made.a || (has_all && (!made.b || !made.c))) {
         dnorm_star_free(&made);
         status.code = DNORM_MEMORY;
         return status;
     }
-    dnorm_first_arcs(graph, form, made.first, (size_t)facts.nodes + 1);
+    dnorm_first_arcs(graph, form, made.first, DNORM_AS(size_t, facts.nodes) + 1);
     dnorm_columns(graph, form, &place, NULL, 0, made.heads, arcs.count, made.a, arcs.count, made.b,
                   has_all ? arcs.count : 0, made.c, has_all ? arcs.count : 0);
     *star = made;
@@ -294,7 +302,7 @@ DNORM_INLINE int dnorm_arc_line(uint8_t kind, dnorm_arc arc, char out[DNORM_LINE
     const int64_t tail = arc.tail, head = arc.head, number = arc.a;
     int length = snprintf(out, DNORM_LINE, "a %" PRId64 " %" PRId64 " %" PRId64, tail, head, number);
     if (kind == DNORM_MIN)
-        length += snprintf(out + length, DNORM_LINE - (size_t)length, " %" PRId64 " %" PRId64, arc.b, arc.c);
+        length += snprintf(out + length, DNORM_LINE - DNORM_AS(size_t, length), " %" PRId64 " %" PRId64, arc.b, arc.c);
     out[length++] = '\n';
     out[length] = 0;
     return length;
@@ -321,4 +329,5 @@ DNORM_INLINE bool dnorm_write(FILE *out, uint8_t kind, int64_t nodes, const dnor
     }
     return fflush(out) == 0 && !ferror(out);
 }
+#undef DNORM_AS
 #endif

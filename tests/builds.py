@@ -7,7 +7,7 @@ import shutil
 
 from known import CANONICAL, REFUSED
 from needs import leave_out, need
-from shared import LIMIT, ROOT, run, said, write
+from shared import LIMIT, ROOT, Answer, run, said, within, write
 
 # A project that finds the library, in this version.
 PROJECT = """cmake_minimum_required(VERSION 3.13)
@@ -25,6 +25,17 @@ POINTS = b"p aux sp co 20000\n" + b"".join(b"v %d -%d 7\n" % (it, it) for it in 
 GIVEN = [(text, forms) for text, *forms in [*CANONICAL, (LARGE, LARGE, LARGE), (POINTS, POINTS, POINTS)]]
 # A number in the help, with its name and its sentence, which may go on in the next line.
 IN_HELP = re.compile(r"^ {2,3}(\d+) (\w+) {2,}(.+(?:\n {22}.+)*)$", re.M)
+
+
+def with_little_memory(program: str) -> list[Answer | None]:
+    """Runs a program, which reads the file that it is told, in 20 MB of memory, on a short text and on one that needs
+    more."""
+    count, answers = 300_000, []
+    rows = (b"a %d 1 7\n" % (it * 7919 % count + 1) for it in range(count))
+    for text in [b"p sp 1 0\n", b"".join([b"p sp %d %d\n" % (count, count), *rows])]:
+        write("text", text)
+        answers.append(within(20_000, [program, "text"]))
+    return answers
 
 
 def version_of(tested: str) -> str:

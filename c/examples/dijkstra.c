@@ -122,6 +122,10 @@ int main(int count, char **words) {
         else if (!can_solve(&roads, from, to)) fputs("a length is below 0, or a node is not in the graph\n", stderr);
         else end = solve(&roads, &points, from, to);
     }
+    if (fflush(stdout) || ferror(stdout)) {
+        perror("standard output");
+        end = 4;
+    }
     dnorm_star_free(&roads);
     dnorm_free(&points);
     dnorm_free(&graph);

@@ -33,10 +33,15 @@ static int solve(const dnorm_cpp::Instance &flow) {
     fill(graph, cap, columns.b);
     fill(graph, cost, columns.c);
     Graph::NodeMap<std::int64_t> supply(graph, 0);
-    for (const dnorm_item &it : flow.items()) supply[graph.node(static_cast<int>(it.id - 1))] = it.a;
+    // LEMON would also solve a problem whose demands exceed its supplies, which no flow can meet.
+    std::uint64_t balance = 0;
+    for (const dnorm_item &it : flow.items()) {
+        supply[graph.node(static_cast<int>(it.id - 1))] = it.a;
+        balance += static_cast<std::uint64_t>(it.a);
+    }
     lemon::NetworkSimplex<Graph, std::int64_t> simplex(graph);
     simplex.lowerMap(low).upperMap(cap).costMap(cost).supplyMap(supply);
-    if (simplex.run() != simplex.OPTIMAL) {
+    if (balance != 0 || simplex.run() != simplex.OPTIMAL) {
         std::cout << "no flow\n";
         return 1;
     }
@@ -54,7 +59,10 @@ int main(int count, char **words) try {
         std::cerr << "no min text, or too many nodes or arcs for LEMON\n";
         return 2;
     }
-    return solve(flow);
+    const int end = solve(flow);
+    if (std::cout.flush()) return end;
+    std::cerr << "standard output failed\n";
+    return 4;
 } catch (const std::runtime_error &why) {
     // A text that is refused, or a file that cannot be read.
     std::cerr << why.what() << '\n';

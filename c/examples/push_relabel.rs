@@ -5,6 +5,7 @@
 use dnorm::{Form, Instance, Kind};
 use std::collections::VecDeque;
 use std::error::Error;
+use std::io::Write;
 use std::process::ExitCode;
 
 /// What flow can still be sent over: each arc, and against it. Nodes count from 0 here.
@@ -109,7 +110,7 @@ fn solve() -> Result<(), Box<dyn Error>> {
     let ends = ends.ok_or("this is no max text")?;
     let (source, sink) = (ends.id as usize - 1, ends.a as usize - 1);
     let value = greatest_flow(&mut Residual::of(&graph)?, source, sink);
-    println!("greatest flow {value}");
+    writeln!(std::io::stdout(), "greatest flow {value}")?;
     Ok(())
 }
 

@@ -8,10 +8,8 @@
        library stack        each call in a thread with a small stack, for the text on standard input
 
    All memory is freed at the end of each; the status is 1 if that or an answer is wrong. */
-#include "dnorm.h"
+#include "dnorm_tools.h"
 #include <pthread.h>
-#include <stdio.h>
-#include <stdlib.h>
 #include <string.h>
 
 /* STACK is that of the fifth rule of dnorm.h, in bytes. */
@@ -102,11 +100,14 @@ static dnorm_status make_text(dnorm *graph, dnorm *text) {
 static int memory(void) {
     for (long number = 0;; number++) {
         dnorm graph = DNORM_NONE, text = DNORM_NONE;
+        dnorm_star star = DNORM_NO_STAR;
         left = number;
         int code = make_text(&graph, &text).code;
+        if (code == DNORM_FINE) code = dnorm_star_make(&graph, 1, &star).code;
         int failed = left < 0;
         left = -1;
         if (code != (failed ? DNORM_MEMORY : DNORM_FINE)) return printf("%ld: code %d\n", number, code), 1;
+        dnorm_star_free(&star);
         dnorm_free(&text);
         dnorm_free(&graph);
         if (live) return printf("%ld: leaves %ld\n", number, live), 1;

@@ -3,9 +3,10 @@
        tools codes               the name and the sentence of each number of 8 bits
        tools read HOW [PATH]     reads a text by HOW: path, or fd and file, of standard input without PATH. Prints what
                                  the status means, and if it is none, the canonical text by dnorm_write
-       tools once PATH           reads a text from a file, and prints its canonical text
+       tools once PATH           reads a text from a file, and prints its canonical text, if the file is closed again
        tools signals             reads a text whose bytes come one by one, while signals interrupt the reads
-       tools broken              reads two texts from a stream that fails after its first bytes
+       tools broken              reads two texts from a stream that fails after its first bytes, and a fault from a pipe
+                                 that stays open, and writes texts to streams that fail
        tools star FORM           prints where the arcs of each node of standard input begin, and the columns
        tools narrow FORM ROOM    prints the columns of 32 bits of standard input, copied in ranges of ROOM arcs, and the
                                  first arc that does not fit them */
@@ -66,12 +67,20 @@ static int read_by(const char *how, const char *path) {
     return end;
 }
 
+/* The number that the next open file has. */
+static int next_number(void) {
+    const int fd = dup(0);
+    close(fd);
+    return fd;
+}
+
 static int read_once(const char *path) {
     dnorm graph = DNORM_NONE;
+    const int number = next_number();
     const dnorm_status status = dnorm_read_path(&graph, path);
     const int end = status.code == DNORM_FINE ? print(&graph) : say(status);
     dnorm_free(&graph);
-    return end;
+    return next_number() == number ? end : 1;
 }
 
 static volatile sig_atomic_t signals_seen;
@@ -127,6 +136,47 @@ static ssize_t read_broken(void *left, char *bytes, size_t room) {
     return length > 0 ? (ssize_t)length : -1;
 }
 
+/* Fails once, and then takes all bytes. */
+static ssize_t fail_once(void *failed, const char *bytes, size_t length) {
+    bool *has_failed = failed;
+    (void)bytes;
+    if (*has_failed) return (ssize_t)length;
+    *has_failed = true;
+    errno = ENOSPC;
+    return 0;
+}
+
+/* Whether dnorm_write says that a stream has failed, early or at the end, or that there is no text of this kind. */
+static bool writes_fail(void) {
+    static const dnorm_arc arcs[MANY];
+    bool has_failed = false, are_right;
+    FILE *once = fopencookie(&has_failed, "wb", (cookie_io_functions_t){.write = fail_once});
+    FILE *full = fopen("/dev/full", "wb");
+    are_right = !dnorm_write(once, DNORM_SP, 1, NULL, 0, arcs, MANY) && has_failed;
+    are_right = are_right && !dnorm_write(full, DNORM_SP, 1, NULL, 0, NULL, 0) && errno == ENOSPC;
+    errno = 0;
+    are_right = are_right && !dnorm_write(stdout, DNORM_NO_KIND, 1, NULL, 0, NULL, 0) && errno == EINVAL;
+    errno = 0;
+    are_right = are_right && !dnorm_write(stdout, DNORM_CO + 1, 1, NULL, 0, NULL, 0) && errno == EINVAL;
+    fclose(once);
+    fclose(full);
+    return are_right;
+}
+
+/* Whether a fault ends the reading of a pipe that stays open. */
+static bool ends_early(void) {
+    dnorm graph = DNORM_NONE;
+    dnorm_status status;
+    int ends[2];
+    if (pipe(ends) || write(ends[1], "x\n", 2) != 2) return false;
+    alarm(10);
+    status = dnorm_read_fd(&graph, ends[0]);
+    alarm(0);
+    dnorm_free(&graph);
+    close(ends[0]), close(ends[1]);
+    return status.code == DNORM_BAD_LINE;
+}
+
 static int broken(void) {
     char texts[2][12] = {"p sp 1 1\n", "p sp 1 1\nq\n"};
     for (int i = 0; i < 2; i++) {
@@ -137,7 +187,7 @@ static int broken(void) {
         fclose(file);
         dnorm_free(&graph);
     }
-    return 0;
+    return writes_fail() && ends_early() ? 0 : 1;
 }
 
 static int star(uint8_t form) {

@@ -1,12 +1,13 @@
 """How programs find the library for C: by CMake, and by the crates for Rust in share/rust, which declare what dnorm.h
-does."""
+does. These and all other Rust of the repository need no later Rust than that of Debian 12."""
 
+import glob
 import os
 import re
 import shutil
 
 import pytest
-from builds import GIVEN, PROJECT, by_cmake, need_cmake, refusal_lines, version_of
+from builds import GIVEN, PROJECT, by_cmake, need_cmake, refusal_lines, sentences_of, version_of, with_little_memory
 from known import CANONICAL, FLOWS
 from needs import need, pass_over
 from shared import ROOT, run, said, text_of, write
@@ -25,6 +26,23 @@ TYPES = {"uint8_t": "u8", "uint32_t": "u32", "uint64_t": "u64", "int64_t": "i64"
 # A scope of Rust may end before the last of its threads does, whose stack memcheck then reports as possibly lost.
 MEMCHECK = ["valgrind", "-q", "--error-exitcode=9", "--leak-check=full", "--errors-for-leak-kinds=definite"]
 MEMCHECK += ["--show-leak-kinds=definite"]
+
+# What tells cargo where the library is, below the prefix; whether the archive is linked; and the members of a workspace
+# that has the crates below its root. Without members, the program is a workspace beside the crates.
+WORKSPACES = [
+    ("DNORM_LIB=/lib", "0", []),
+    ("PKG_CONFIG_PATH=/lib/pkgconfig", "1", []),
+    ("PKG_CONFIG_PATH=/lib/pkgconfig", "0", ["reads"]),
+    ("DNORM_LIB=/lib", "1", ["dnorm-sys", "dnorm", "reads"]),
+]
+
+# What compiles for Rust 1.63: Debian's rustc, or clippy, which names what the standard library has had only since then.
+OLDEST: dict[str, list[str]] = {"/usr/bin/rustc": [], "clippy-driver": ["-Aclippy::all", "-Dclippy::incompatible_msrv"]}
+# Sources in Rust, the crates first, with the crates that they use.
+LIBRARIES: dict[str, list[str]] = {f"{CRATES}/dnorm-sys/src/lib.rs": [], f"{CRATES}/dnorm/src/lib.rs": ["dnorm_sys"]}
+PROGRAMS: dict[str, list[str]] = {it: [] for it in sorted(glob.glob(f"{ROOT}/bench/**/*.rs", recursive=True))}
+PROGRAMS |= {it: ["dnorm"] for it in (f"{ROOT}/c/examples/push_relabel.rs", f"{ROOT}/tests/library/library.rs")}
+PROGRAMS[f"{CRATES}/dnorm-sys/build.rs"] = []
 
 # Versions that a project asks for, where the library's is MAJOR.MINOR.x, by whether CMake finds them.
 ASKED = {
@@ -81,7 +99,7 @@ def test_version_of_crate(tested: str, name: str) -> None:
 
 @pytest.fixture(scope="module")
 def uses(c_library: str, tmp_path_factory: pytest.TempPathFactory) -> str:
-    """A program of library.rs and the crates, built by rustc alone."""
+    """A program of library.rs and the crates, built by rustc alone. The solver in Rust is beside it."""
     if not shutil.which("rustc"):
         # tools/setup does not install Rust.
         pass_over("rustc")
@@ -93,9 +111,37 @@ def uses(c_library: str, tmp_path_factory: pytest.TempPathFactory) -> str:
         ["--crate-type", "rlib", *native, f"{CRATES}/dnorm-sys/src/lib.rs"],
         ["--crate-type", "rlib", "--crate-name", "dnorm", "--extern", sys_crate, f"{CRATES}/dnorm/src/lib.rs"],
         ["--extern", crate, f"{ROOT}/tests/library/library.rs"],
+        ["--extern", crate, f"{ROOT}/c/examples/push_relabel.rs"],
     ]:
         assert run([*rustc, *words]) == said(), words
     return f"{folder}/library"
+
+
+@pytest.mark.parametrize("compiler", OLDEST)
+def test_oldest_rust(folder: str, compiler: str) -> None:
+    if not shutil.which(compiler):
+        pass_over(compiler)
+    write("clippy.toml", 'msrv = "1.63"\n')
+    environment = {**os.environ, "CLIPPY_CONF_DIR": folder}
+    common = [compiler, "--edition=2021", "--emit=metadata", "-Dwarnings", *OLDEST[compiler], "-L."]
+    for path, used in [*LIBRARIES.items(), *PROGRAMS.items()]:
+        name = os.path.relpath(path, CRATES).partition("/")[0].replace("-", "_")
+        words = ["--crate-type=rlib", f"--crate-name={name}"] if path in LIBRARIES else []
+        words += [f"--extern={it}=lib{it}.rmeta" for it in used]
+        assert run([*common, *words, path], env=environment) == said(), path
+
+
+def test_memory_in_rust(uses: str, tested: str, folder: str) -> None:
+    refused = said(b"", f"30 {sentences_of(tested)[30]}\n", 2)
+    assert with_little_memory(uses) == [said("p sp 1 0\n"), refused]
+
+
+def test_solver_in_rust(uses: str, folder: str) -> None:
+    write("pipes", b"p max 3 2\nn 1 s\nn 3 t\na 1 2 7\na 2 3 5\n")
+    words = [f"{os.path.dirname(uses)}/push_relabel", "pipes"]
+    assert run(words) == said("greatest flow 5\n")
+    full = run(["sh", "-c", 'exec "$@" > /dev/full', "sh", *words])
+    assert full == said(b"", "No space left on device (os error 28)\n", 2)
 
 
 @pytest.mark.parametrize("text, forms", GIVEN, ids=[f"{it[0]!r:.60}" for it in GIVEN])
@@ -108,7 +154,8 @@ def test_rust(uses: str, folder: str, text: bytes, forms: list[bytes]) -> None:
 def test_refusals_in_rust(uses: str, tested: str) -> None:
     for text, line in refusal_lines(tested).items():
         assert run([uses], text) == said(b"", f"{line}\n", 2), text
-    assert run([uses, "/none"]) == said(b"", "No such file or directory (os error 2)\n", 4), "a missing file"
+    for name, cause in [("/none", "No such file or directory (os error 2)"), ("/", "Is a directory (os error 21)")]:
+        assert run([uses, name]) == said(b"", f"{name}: {cause}\n", 4)
 
 
 @pytest.mark.parametrize("text", [FLOWS, b"p sp 1 1\nq\n"], ids=["accepted", "refused"])
@@ -117,19 +164,26 @@ def test_memcheck_of_rust(uses: str, text: bytes) -> None:
     assert run([*MEMCHECK, uses], text) == run([uses], text)
 
 
-@pytest.mark.parametrize("is_static", ["0", "1"])
-def test_cargo(c_library: str, folder: str, is_static: str) -> None:
-    """cargo builds a program that depends on the crate `dnorm`, from both libraries."""
+@pytest.mark.parametrize("place, is_static, members", WORKSPACES)
+def test_cargo(c_library: str, folder: str, place: str, is_static: str, members: list[str]) -> None:
+    """cargo builds a program that depends on the crate `dnorm`, from both libraries. Its workspace may have the crates
+    as members, or merely below its root."""
     if not shutil.which("cargo"):
         pass_over("cargo")
     for name in ["dnorm", "dnorm-sys"]:
         shutil.copytree(f"{CRATES}/{name}", name)
     os.makedirs("reads/src")
     shutil.copy(f"{ROOT}/tests/library/library.rs", "reads/src/main.rs")
-    manifest = '[package]\nname = "reads"\nversion = "0.1.0"\nedition = "2021"\n\n[workspace]\n'
+    manifest = '[package]\nname = "reads"\nversion = "0.1.0"\nedition = "2021"\n'
     write("reads/Cargo.toml", f'{manifest}\n[dependencies]\ndnorm = {{ path = "../dnorm" }}\n')
-    own = {"DNORM_LIB": f"{c_library}/lib", "DNORM_STATIC": is_static, "LD_LIBRARY_PATH": f"{c_library}/lib"}
+    with open("Cargo.toml" if members else "reads/Cargo.toml", "a", encoding="utf-8") as root:
+        root.write(f"[workspace]\nmembers = {members}\n")
+    need("pkg-config", "readelf")
+    name, _, below = place.partition("=")
+    own = {name: f"{c_library}{below}", "DNORM_STATIC": is_static, "LD_LIBRARY_PATH": f"{c_library}/lib"}
     environment = {**os.environ, **own, "CARGO_TARGET_DIR": f"{folder}/target"}
-    assert run(["cargo", "build", "--quiet", "--offline"], cwd="reads", env=environment) == said()
+    for it in [*members, "reads"]:
+        assert run(["cargo", "build", "--quiet", "--offline"], cwd=it, env=environment) == said(), it
     text, *forms = CANONICAL[0]
     assert run(["target/debug/reads"], text, env=environment) == said(b"".join(forms))
+    assert (b"libdnorm.so" in run(["readelf", "-d", "target/debug/reads"]).out) == (is_static == "0")

@@ -5,6 +5,7 @@ library.c tries orders of calls, failing allocations and threads, and counts wha
 inline functions of dnorm_tools.h, and library.cc the classes. valgrind finds no fault in these. The headers compile
 without a warning in each standard, and beside R's macro `dnorm`."""
 
+import bisect
 import ctypes
 import os
 import re
@@ -13,9 +14,9 @@ import subprocess
 
 import pytest
 from bound import FUNCTIONS, WRONG_CALL
-from builds import GIVEN, compiled, refusal_lines, sentences_of, version_of
+from builds import GIVEN, compiled, refusal_lines, sentences_of, version_of, with_little_memory
 from known import CANONICAL, COSTS, FLOWS, ROADS, ROADS_CANON
-from needs import need, need_proc, pass_over
+from needs import leave_out, need, need_proc, pass_over
 from refusal_table import refusals
 from shared import ROOT, run, said, text_of, write
 
@@ -32,6 +33,8 @@ CHECKERS = {
     "helgrind": ["valgrind", "-q", "--error-exitcode=9", "--tool=helgrind"],
 }
 STRICT = ["-Wall", "-Wextra", "-pedantic-errors", "-Wconversion", "-Wshadow", "-Werror", "-fsyntax-only"]
+# What only C++ warns of.
+STRICT_CPP = ["-Wold-style-cast"]
 # Compilers with their standards, and the headers that compile in them.
 STANDARDS = {
     "gcc": (["c99", "c11", "c17"], ["dnorm.h", "dnorm_tools.h"]),
@@ -53,13 +56,62 @@ int main(void) {
     return dnorm_next(&graph, 1, &first, &arc, 1).code == DNORM_WRONG_CALL ? 0 : DNORM_VERSION;
 }
 """
+# Functions in place of the library's, which count what the macros of dnorm.h must not give them.
+MACROS = """
+#include <dnorm.h>
+static const dnorm_count none;
+static const dnorm_status fine;
+static int wrong;
+dnorm_status (dnorm_feed)(dnorm *it, const uint8_t *bytes, size_t length) { wrong += !bytes; return fine; }
+dnorm_count (dnorm_next)(const dnorm *it, uint8_t form, dnorm_place *place, dnorm_arc *out, size_t room) {
+    wrong += !out;
+    return none;
+}
+dnorm_count (dnorm_columns)(const dnorm *it, uint8_t form, dnorm_place *place, int64_t *tails, size_t tails_room,
+                            int64_t *heads, size_t heads_room, int64_t *a, size_t a_room, int64_t *b, size_t b_room,
+                            int64_t *c, size_t c_room) {
+    wrong += !tails + !heads + !a + !b + !c;
+    return none;
+}
+dnorm_count (dnorm_items)(const dnorm *it, dnorm_place *place, dnorm_item *out, size_t room) {
+    wrong += !out;
+    return none;
+}
+dnorm_status (dnorm_canon)(const dnorm *it, uint8_t form, dnorm *text) { wrong += it == text; return fine; }
+dnorm_count (dnorm_text)(const dnorm *it, size_t from, uint8_t *out, size_t room) { wrong += !out; return none; }
+dnorm_count (dnorm_name)(const dnorm *it, uint8_t *out, size_t room) { wrong += !out; return none; }
+void (dnorm_free)(dnorm *it) { wrong += !it; }
+int main(void) {
+    dnorm it = DNORM_NONE;
+    dnorm_place place = DNORM_FIRST;
+    dnorm_feed(&it, NULL, 0);
+    dnorm_next(&it, 1, &place, NULL, 0);
+    dnorm_columns(&it, 1, &place, NULL, 0, NULL, 0, NULL, 0, NULL, 0, NULL, 0);
+    dnorm_items(&it, &place, NULL, 0);
+    dnorm_text(&it, 0, NULL, 0);
+    dnorm_name(&it, NULL, 0);
+    dnorm_free(NULL);
+    return wrong + (dnorm_canon(&it, 1, &it).code != DNORM_WRONG_CALL);
+}
+"""
 # A part of another file of a program.
 OTHER = "int other(void);\nint other(void) {\n    return dnorm_code_name(1)[0];\n}\n"
-# Statements of C++, with what does not compile in them and what does; `text` is a std::string and `graph` a const
-# Instance.
+# Statements of C++, with what does not compile in them and what does; `text` is a std::string_view, `name` a
+# std::string, `chars` an array, `path` a std::filesystem::path and `graph` a const Instance.
 WRONG = {
-    "the arcs of a temporary": ("for (auto &it : {}.each_arc()) (void)it;", "Instance(text)", "graph"),
-    "the name of a file as a text": ("Instance it({});", '"roads.gr"', 'dnorm_cpp::Path("roads.gr")'),
+    "arcs that outlive an instance": (
+        "for (auto &it : std::make_unique<Instance>(text)->{}) (void)it;",
+        "each_arc()",
+        "arcs()",
+    ),
+    "a literal as a text": ("Instance it{{{}}};", '"roads.gr"', 'dnorm_cpp::Path("roads.gr")'),
+    "an array as a text": ("Instance it{{{}}};", "chars", "std::string_view(chars)"),
+    "a string as a text": ("Instance it{{{}}};", "name", "std::string_view(name)"),
+    "a string that is moved as a text": ("Instance it{{{}}};", "std::move(name)", "dnorm_cpp::Path(std::move(name))"),
+    "the end of a name as a text": ("Instance it{{{}}};", "name.c_str()", "text.substr(1)"),
+    "a name of other memory as a text": ("Instance it{{{}}};", "std::pmr::string(name)", "dnorm_cpp::Path(name)"),
+    "a path as a text": ("Instance it{{{}}};", "path", "dnorm_cpp::Path(path)"),
+    "a name to be read": ("dnorm_status it; Instance::read({}, it);", "name", "dnorm_cpp::Path(name)"),
     "a change of a const instance": ("{};", "graph = Instance(text)", "graph.columns()"),
     "a copy": ("Instance it({});", "graph", "text"),
     "a handle without const": ("const dnorm_handle it = DNORM_NONE; {};", "dnorm_free(&it)", "dnorm_facts(&it)"),
@@ -95,6 +147,20 @@ STARS = {
     b"p aux sp ss 0\n": ("40 WrongCall: The handle is not for this call.\n",) * 2 + (2,),
 }
 
+
+# The compilers of the solvers in c/examples, and texts with what the solvers print and their status; FULL is a standard
+# output that takes nothing.
+FULL = "/dev/full"
+COMPILERS = {"dijkstra.c": ["cc", "-std=c99"], "least_cost.cc": ["c++", "-std=c++17"]}
+UNMET = b"p min 2 1\nn 1 %d\nn 2 %d\na 1 2 0 4 2\n"
+SOLVED = [
+    ("dijkstra.c", ROADS.replace(b" -5", b" 5"), "-", b"node 2, distance 3\nnode 1, distance 0\n", 0),
+    ("dijkstra.c", ROADS.replace(b" -5", b" 5"), FULL, b"", 4),
+    ("least_cost.cc", UNMET % (2, -2), "-", b"least cost 4\nflow 1 2 2\n", 0),
+    ("least_cost.cc", UNMET % (2, -2), FULL, b"", 4),
+    ("least_cost.cc", UNMET % (2, -1), "-", b"no flow\n", 1),
+    ("least_cost.cc", UNMET % (1, -2), "-", b"no flow\n", 1),
+]
 
 # What library.c does: its arguments, what it prints, and what watches it.
 CALLS = [
@@ -220,11 +286,20 @@ def test_refusals_in_cpp(in_cpp: str, tested: str) -> None:
         assert run([in_cpp], text) == said(b"", f"code {line.split(': ')[1].split()[0]}: {line}\n", 2), text
 
 
-def test_files_in_cpp(in_cpp: str, folder: str) -> None:
+def test_files_in_cpp(in_cpp: str, tested: str, folder: str) -> None:
     write("text", ROADS)
     assert run([in_cpp, "text"]) == said(ROADS_CANON)
+    write("text", b"p sp 1 1\nq\n")
+    assert run([in_cpp, "text"]) == said(b"", f"line 2: 5 {sentences_of(tested)[5]}\n", 2)
+    assert run([in_cpp, "-"], ROADS) == said(ROADS_CANON)
     for name, cause in {"none": "No such file or directory", folder: "Is a directory"}.items():
         assert run([in_cpp, name]) == said(b"", f"{name}: {cause}\n", 4)
+    failed = run(["sh", "-c", 'exec "$1" - < /', "sh", in_cpp])
+    assert failed.status == 4 and b"the stream cannot be read" in failed.err
+
+
+def test_memory_in_cpp(in_cpp: str, folder: str) -> None:
+    assert with_little_memory(in_cpp) == [said("p sp 1 0\n"), said(status=5)]
 
 
 @pytest.mark.parametrize("text", [FLOWS, b"p sp 1 1\nq\n"], ids=["accepted", "refused"])
@@ -242,9 +317,10 @@ def test_clean_headers(c_library: str, compiler: str, standard: str, header: str
     write("Rmath.h", RMATH)
     own, other = f"#include <{header}>\n", '#include "Rmath.h"\n'
     source = f"uses.{'cc' if '+' in compiler else 'c'}"
+    warnings = [*STRICT, *STRICT_CPP] if "+" in compiler else STRICT
     for text in [own, other + own, own + other]:
         write(source, text + USES)
-        assert run([compiler, f"-std={standard}", *STRICT, f"-I{c_library}/include", source]) == said(), text
+        assert run([compiler, f"-std={standard}", *warnings, f"-I{c_library}/include", source]) == said(), text
 
 
 @pytest.mark.parametrize("words, header", [("cc -std=c99", "dnorm_tools.h"), ("c++ -std=c++17", "dnorm.hpp")])
@@ -258,20 +334,43 @@ def test_two_files(c_library: str, words: str, header: str) -> None:
     assert run(["./two"]) == said()
 
 
+def test_macros(c_library: str) -> None:
+    """By the macros of dnorm.h, no function gets a null pointer, nor its own text."""
+    write("macros.c", MACROS)
+    compiled("cc", "-std=c99", "-Wno-unused-parameter", f"-I{c_library}/include", "-o", "macros", "macros.c")
+    assert run(["./macros"]) == said()
+
+
 @pytest.mark.parametrize("name", WRONG)
 def test_wrong_use(c_library: str, name: str) -> None:
     """Wrong uses of the classes do not compile, and the right ones beside them do."""
     need("c++")
     statement, wrong, right = WRONG[name]
     statuses = []
-    for it in [wrong, right]:
-        lines = ["#include <dnorm.hpp>", "using dnorm_cpp::Instance;"]
-        lines.append("void f(const std::string &text, const Instance &graph) {")
-        lines += ["    (void)text, (void)graph;", f"    {statement.format(it)}", "}"]
+    for given in [wrong, right]:
+        lines = [f"#include <{it}>" for it in ("dnorm.hpp", "filesystem", "memory", "memory_resource")]
+        lines += ["using dnorm_cpp::Instance;", "void f(std::string_view text, const Instance &graph) {"]
+        lines += ['    std::string name; std::filesystem::path path; char chars[] = "roads.gr";']
+        lines += ["    (void)text, (void)graph, (void)chars;", f"    {statement.format(given)}", "}"]
         write("wrong.cc", "\n".join([*lines, ""]))
         ran = run(["c++", "-std=c++17", "-fsyntax-only", f"-I{c_library}/include", "wrong.cc"])
         statuses.append(ran.status != 0)
     assert statuses == [True, False], "whether the wrong and the right use are refused"
+
+
+@pytest.mark.parametrize("name, text, to, out, status", SOLVED)
+def test_solvers(c_library: str, name: str, text: bytes, to: str, out: bytes, status: int) -> None:
+    """The solvers of c/examples say that there is no flow, and that their output failed."""
+    if name == "least_cost.cc" and not os.path.exists("/usr/include/lemon/network_simplex.h"):
+        leave_out("LEMON")
+    words = [f"-I{c_library}/include", "-o", "solve", f"{ROOT}/c/examples/{name}", f"{c_library}/lib/libdnorm.a"]
+    compiled(*COMPILERS[name], *words)
+    write("text", text)
+    write("points", b"p aux sp co 0\n")
+    others = ["points", "1", "2"] if name == "dijkstra.c" else []
+    shell = ["sh", "-c", f'exec "$@" > {FULL}', "sh"] if to == FULL else []
+    ran = run([*shell, "./solve", "text", *others])
+    assert (ran.out, ran.status, ran.err != b"") == (out, status, to == FULL)
 
 
 def test_plugin(c_library: str, folder: str) -> None:
@@ -314,8 +413,24 @@ def test_failing_streams(tools: str, tested: str) -> None:
 def test_star(tools: str, text: bytes) -> None:
     star, columns, status = STARS[text]
     is_made = status == 0 or star.startswith("0 ")
-    check([tools, "star", "1"], star, ["memcheck"] * (text == ROADS), 0 if is_made else 2, text)
+    check([tools, "star", "1"], star, ["memcheck"] * (text in [ROADS, COSTS]), 0 if is_made else 2, text)
     assert run([tools, "narrow", "1", "2"], text) == said(columns, status=status), "columns of 32 bits"
+
+
+def star_of(canonical: bytes) -> str:
+    """Returns what library_tools.c prints of the forward star of a canonical text of a graph."""
+    rows = [it.split() for it in canonical.decode().splitlines()]
+    arcs = [it[1:] for it in rows if it[0] == "a"]
+    tails = [int(it[0]) for it in arcs]
+    first = "".join(f"{bisect.bisect_right(tails, node)} " for node in range(int(rows[0][2]) + 1))
+    return "\n".join([first, *(" ".join(it[1:]) for it in arcs), ""])
+
+
+def test_forms_of_stars(tools: str) -> None:
+    for text, forms in GIVEN:
+        if re.match(rb"p (min|max|sp) \d{1,5} ", forms[0]):
+            for form, canonical in enumerate(forms, 1):
+                assert run([tools, "star", str(form)], text) == said(star_of(canonical)), f"{text!r:.60}"
 
 
 def test_large_star(tools: str, tested: str) -> None:
@@ -329,8 +444,8 @@ def test_large_star(tools: str, tested: str) -> None:
 
 
 def is_kept(fifo: str, tools: str) -> bool:
-    """Whether a file that is read by its name would not be passed on to another program. It is a pipe with a name, so
-    that it is open until the text is written."""
+    """Whether a file that is read by its name would not be passed on to another program, and is closed. It is a pipe
+    with a name, so that it is open until the text is written."""
     os.mkfifo(fifo)
     with subprocess.Popen([tools, "once", fifo], stdout=subprocess.PIPE) as process:
         with open(fifo, "wb") as text:
@@ -340,7 +455,7 @@ def is_kept(fifo: str, tools: str) -> bool:
                 own = [it for it in os.listdir(f"{folder}/fd") if os.path.realpath(f"{folder}/fd/{it}") == fifo]
             flags = [int(text_of(f"{folder}/fdinfo/{it}").split()[3], 8) for it in own]
             text.write(ROADS)
-        is_read = process.communicate()[0] == ROADS_CANON
+        is_read = process.communicate()[0] == ROADS_CANON and process.returncode == 0
         return is_read and len(flags) == 1 and flags[0] & os.O_CLOEXEC != 0
 
 

@@ -98,7 +98,7 @@ LISTED = {
 ROW = "22   65  EarlyArc         DNORM_EARLY_ARC           An arc line precedes a node line of max.\n"
 NEXT = "30    -  Memory"
 # Files that name all kinds, all graphs or all companions, and so lack a new one.
-OF_KINDS = {"crates/dn_line/src/kind.rt", "docs/FORMAT.md", "share/git/pre-commit", "tests/reading.py"}
+OF_KINDS = {"crates/dn_line/src/kind.rt", "docs/FORMAT.md", "python/src/dnorm/names.py", "tests/reading.py"}
 OF_KINDS |= {"crates/dn_c/src/outputs.rt", "python/src/dnorm/networks.py", "crates/dn_instance/src/companion.rt"}
 
 

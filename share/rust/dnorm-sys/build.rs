@@ -5,6 +5,7 @@ use std::{env, process::Command};
 fn main() {
     println!("cargo:rerun-if-env-changed=DNORM_LIB");
     println!("cargo:rerun-if-env-changed=DNORM_STATIC");
+    println!("cargo:rerun-if-env-changed=PKG_CONFIG_PATH");
     let asked = Command::new("pkg-config")
         .args(["--variable=libdir", "dnorm"])
         .output();

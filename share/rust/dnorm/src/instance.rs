@@ -55,9 +55,13 @@ impl Instance {
     ///
     /// # Errors
     ///
-    /// As [`Instance::read`] has them, or that the file cannot be opened.
+    /// As [`Instance::read`] has them, or that the file cannot be opened. A failure names the file.
     pub fn open(path: impl AsRef<Path>) -> Result<Instance, ReadError> {
-        Instance::read(File::open(path)?)
+        let path = path.as_ref();
+        let opened = File::open(path).map_err(ReadError::Failed);
+        opened
+            .and_then(Instance::read)
+            .map_err(|it| it.of_file(path))
     }
 
     pub(crate) fn of_handle(handle: Handle) -> Result<Instance, Refusal> {
@@ -109,15 +113,17 @@ impl Instance {
 
     /// Returns the canonical arcs, in the order of the canonical text. A companion has none.
     pub fn arcs(&self, form: Form) -> Rows<'_, Arc> {
-        Rows::new(self, form, SOME)
+        // A graph of few lines has few arcs.
+        let room = usize::try_from(self.lines()).map_or(SOME, |it| SOME.min(it.saturating_add(1)));
+        Rows::new(self, form, room)
     }
 
     /// Returns what the instance has beside its arcs: flows by ascending node, the source with the sink, items in the
     /// order of the text, or points by ascending ID.
     pub fn items(&self) -> Rows<'_, Item> {
         // A call for items may walk over those before, so that there are at most four calls for many items.
-        let room = self.item_count() / 4 + 1;
-        Rows::new(self, Form::One, SOME.max(room as usize))
+        let count = self.item_count() as usize;
+        Rows::new(self, Form::One, (count / 4).max(SOME.min(count)) + 1)
     }
 
     /// Returns the canonical arcs by columns. Those that the kind lacks are empty.

@@ -5,6 +5,7 @@ use dnorm_sys as sys;
 use std::error::Error;
 use std::fmt::{Debug, Display, Formatter, Result as Printed};
 use std::io;
+use std::path::Path;
 
 /// Where a text is refused.
 #[derive(Clone, Copy, Debug, PartialEq, Eq, Hash)]
@@ -77,6 +78,19 @@ pub enum ReadError {
     Refused(Refusal),
     /// The source failed.
     Failed(io::Error),
+}
+
+impl ReadError {
+    /// Puts the name of a file before what a failure says.
+    pub(crate) fn of_file(self, path: &Path) -> ReadError {
+        match self {
+            ReadError::Refused(_) => self,
+            ReadError::Failed(error) => {
+                let line = format!("{}: {error}", path.display());
+                ReadError::Failed(io::Error::new(error.kind(), line))
+            }
+        }
+    }
 }
 
 impl Display for ReadError {

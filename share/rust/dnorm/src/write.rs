@@ -1,22 +1,23 @@
 //! Texts of items and arcs.
 
 use crate::{Arc, Item, Kind};
-use std::io::{self, Write};
+use std::io::{self, BufWriter, Write};
 
 /// Writes a text with these items and arcs in their order, as [`Instance::items`](crate::Instance::items) and
 /// [`Instance::arcs`](crate::Instance::arcs) return them: nodes and arcs are for a graph alone. What it is given is not
-/// judged: [`Instance::read`](crate::Instance::read) judges the text.
+/// judged: [`Instance::read`](crate::Instance::read) judges the text. The writer takes large pieces, and is flushed.
 ///
 /// # Errors
 ///
 /// The writer failed.
 pub fn write(
-    mut out: impl Write,
+    out: impl Write,
     kind: Kind,
     nodes: i64,
     items: &[Item],
     arcs: &[Arc],
 ) -> io::Result<()> {
+    let mut out = BufWriter::with_capacity(65536, out);
     match kind {
         Kind::Min => writeln!(out, "p min {nodes} {}", arcs.len())?,
         Kind::Max => writeln!(out, "p max {nodes} {}", arcs.len())?,
@@ -43,5 +44,5 @@ pub fn write(
             Kind::Ss | Kind::P2p | Kind::Co => {}
         }
     }
-    Ok(())
+    out.flush()
 }
