@@ -101,7 +101,7 @@ def test_no_manifests() -> None:
 
 def test_joined_manifests() -> None:
     """Manifests that are put together, sorted, compressed, or have names that look like marks."""
-    odd = f"a{TAB}.gr"
+    odd = f"a{TAB}"
     make({"b.gr": ROADS, odd: ROADS, "c.gr": COSTS})
     time.sleep(AGE)
     module("manifest", "--incremental", "one", "b.gr", odd)
