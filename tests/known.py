@@ -1,28 +1,29 @@
 """Small texts with known answers: what each command prints for them, and the statuses. CANONICAL, COMPARED and REFUSED
-take a text that is a case of cases.txt from there, and REFUSED has the texts of examples/refused/, too."""
+take a text that is a case of cases.json from there, and REFUSED has the texts of examples/refused/, too."""
 
 import os
 from collections.abc import Iterator
 from typing import Any, NamedTuple
 
-from cases import listed
 from refusal_table import place_of
 from shared import ROOT, text_of
+from suite import cases
+from suite import texts as texts_of
 
 EXAMPLES = f"{ROOT}/examples/refused"
 # The arguments of a run, the texts by their names, the standard output and standard error, and the status.
 Run = tuple[str, dict[str, bytes], bytes, bytes, int]
-CASES = {f"{it.rule}-{it.name}": it for it in listed()}
+CASES = {it["id"]: texts_of(it) for it in cases()}
 
 
 def case(name: str) -> bytes:
-    """Returns the text of a case of cases.txt."""
-    return CASES[name].text.encode("latin-1")
+    """Returns the text of a case of cases.json."""
+    return CASES[name][0].encode("latin-1")
 
 
 def pair(name: str) -> tuple[bytes, bytes]:
-    """Returns both texts of a case of cases.txt."""
-    return case(name), str(CASES[name].second).encode("latin-1")
+    """Returns both texts of a case of cases.json."""
+    return case(name), CASES[name][1].encode("latin-1")
 
 
 def examples() -> Iterator[tuple[bytes, bytes]]:

@@ -19,7 +19,7 @@ DOCS = sorted(os.path.relpath(it, ROOT) for it in glob.glob(f"{ROOT}/docs/*.md")
 # The pages whose paths are checked, and the pages whose links are checked.
 PLACING = ["README.md", "ARTIFACT.md", "CONTRIBUTING.md", *DOCS]
 LINKING = [*PLACING, "CHANGELOG.md", "bench/README.md", "released/README.md"]
-LINKING += ["share/conformance/README.md", "share/conformance/mistakes.md"]
+LINKING += ["share/conformance/README.md"]
 # The pages whose blocks of code are all quoted from a source, of which the first one explains the signs in them; and
 # the pages whose names must all be in sources.
 QUOTING = ["docs/PROVED.md", "docs/LAWS.md"]

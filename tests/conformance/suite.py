@@ -1,215 +1,116 @@
-"""The conformance suite, as far as it is generated: cases.json and the list of mistakes, mistakes.md, in
-share/conformance, and the list of ids, case-ids.txt. tools/conformance-cases writes them, and test_conformance compares
-them."""
+"""The conformance suite as its tests read it: share/conformance/cases.json, which is written by hand, and the answers
+of tests/reading.py.
 
-import hashlib
+    suite.py add RULE NAME ABOUT TEXT [SECOND]    adds a case with its answer at the end of a rule
+    suite.py batch                                answers calls as a reader that run.py calls with --batch
+
+In a TEXT, ` / ` stands for an LF, which also ends it, and escapes are those of Python."""
+
 import json
-import re
-from collections import Counter
+import os
+import sys
 from collections.abc import Iterator
-from typing import Any, NamedTuple
+from types import ModuleType
+from typing import Any
 
-import cases
-import challenge
-import mistakes
-import sentences
-from case import Case
-from found import LONG, Find, Finder, applies
-from mistakes import OF_TABLES, Mistake
-from reading import LINES
-from rules import RULES
-from shared import ROOT, text_of
+sys.path.append(os.path.dirname(os.path.dirname(os.path.realpath(__file__))))
+# The folder of the tests must be on the path before these imports.
+import reading  # noqa: E402
+from shared import ROOT, bytes_of, run, text_of, write  # noqa: E402
 
 FOLDER = f"{ROOT}/share/conformance"
-# The number of this state of the cases. A release in which cases were added, removed or changed has the next one.
-VERSION = 2
-# The ids that cases have or had, each with a checksum of its texts: an id is never given to another text.
-IDS = f"{ROOT}/tests/conformance/case-ids.txt"
-ABOUT = (
-    "Texts are in Latin-1: each character stands for the byte of its number. A long text is a list of strings, and of"
-    " strings with the number of times that they are repeated. README.md describes the fields."
-)
-# The types of lines, and the headings of mistakes that a line of any type can have.
-TYPES = [f"{kind} {letter}" for kind, letters in LINES.items() for letter in letters]
-OF_LINES = ["Lines and words", "Keywords", "Numbers"]
-# How many other cases find each mistake that a case which is left out finds, and the rules whose cases all stay: each
-# has two faults or two numbers that no other case has.
-OTHERS = 10
-STAYING = ["several", "pair", "least", "total", "forced", "form"]
-# A case in readers.txt, in which the reader of a library does otherwise.
-FAILED = re.compile(r"^    (\S+)$", re.M)
-# A part of a long text that is repeated.
-REPEATED = re.compile(r"(.{1,16}?)\1{63,}", re.S)
+FILE = f"{FOLDER}/cases.json"
+Case = dict[str, Any]
 
 
-class Entry(NamedTuple):
-    """A case of the suite, its answer, and what it finds."""
-
-    case: Case
-    answer: dict[str, Any]
-    finds: frozenset[Find]
-
-    @property
-    def id(self) -> str:
-        return f"{self.case.rule}-{self.case.name}"
-
-    def fields(self) -> dict[str, Any]:
-        """Returns the case as cases.json has it."""
-        case, answer = self.case, dict(self.answer)
-        names = cases.names(case) if case.second is not None else ["text"]
-        texts = {name: parts(text) for name, text in zip(names, [case.text, case.second]) if text is not None}
-        if "canon" in answer:
-            answer["canon"] = [parts(it) for it in answer["canon"]]
-        is_decided = case.second is None and challenge.decides(case.text, answer)
-        profile = {} if is_decided else {"profile": True}
-        return {"id": self.id, "about": case.about, **profile, **texts, **answer}
-
-    def checksum(self) -> str:
-        """Returns a checksum of the texts."""
-        texts = json.dumps([self.case.text, self.case.second])
-        return hashlib.sha256(texts.encode()).hexdigest()[:12]
+def rules() -> list[Case]:
+    found: list[Case] = json.loads(text_of(FILE))["rules"]
+    return found
 
 
-class Suite:
-    """The cases: those that are written by hand, that test a sentence of FORMAT.md, in which the reader of a library
-    fails, or that are long, and of the others some of which no two find the same mistakes, and each finds some."""
-
-    def __init__(self) -> None:
-        self.mistakes = [*mistakes.mistakes()]
-        finder = Finder(cases.judged())
-        found = finder.finds(self.mistakes)
-        self.all = [Entry(it.case, it.answer, frozenset(own)) for it, own in zip(finder.all, found)]
-        chosen: dict[frozenset[Find], Entry] = {}
-        for entry in self.all:
-            chosen.setdefault(entry.finds, entry)
-        named = {f"{it.rule}-{it.name}" for it in cases.listed()} | {it for _, ids in sentences.listed() for it in ids}
-        named |= {*FAILED.findall(text_of(f"{FOLDER}/readers.txt"))}
-        kept = named | {it.id for it in chosen.values() if it.finds}
-        self.entries = [it for it in self.all if it.id in kept or LONG < len(it.case.text)]
-        spare = {it.id for it in self.spare(named)}
-        self.entries = [it for it in self.entries if it.id not in spare]
-
-    def spare(self, named: set[str]) -> Iterator[Entry]:
-        """Yields short cases without these names that can be left out together: many others find each of their
-        mistakes."""
-        found = self.finds()
-        for it in reversed(self.entries):
-            is_short = len(it.case.text) <= LONG and it.case.rule not in STAYING
-            if is_short and it.id not in named and all(OTHERS < found[find] for find in it.finds):
-                found.subtract(it.finds)
-                yield it
-
-    def finds(self) -> Counter[Find]:
-        """Returns how many cases find each mistake in each line type or kind."""
-        return Counter(it for entry in self.entries for it in entry.finds)
-
-    def counts(self) -> list[int]:
-        """Returns how many cases find each mistake."""
-        found = Counter(number for entry in self.entries for number in {number for number, _ in entry.finds})
-        return [found[number] for number in range(len(self.mistakes))]
-
-    def missing(self) -> dict[str, list[str]]:
-        """Returns the line types in which no case finds a mistake that any line can have, by the mistakes."""
-        found = self.finds()
-        missing: dict[str, list[str]] = {}
-        for number, it in self.of_lines():
-            own = [line_type for line_type in TYPES if applies(it, line_type) and (number, line_type) not in found]
-            missing |= {it.what: own} if own else {}
-        return missing
-
-    def of_lines(self) -> list[tuple[int, Mistake]]:
-        """Returns the mistakes that any line can have, with their numbers."""
-        return [(number, it) for number, it in enumerate(self.mistakes) if it.heading in OF_LINES]
-
-    def planted(self) -> int:
-        """Returns in how many line types mistakes that any line can have were planted."""
-        return sum(applies(it, line_type) for _, it in self.of_lines() for line_type in TYPES)
-
-    def page(self) -> str:
-        """Returns the text of mistakes.md."""
-        missing, heading, counts = self.missing(), "", self.counts()
-        rows = [
-            "# Mistakes that the cases find",
-            "",
-            f"{len(self.mistakes)} mistakes, and {len(self.entries)} cases. A mistake in how a line is read was planted"
-            f" into each of the {len(TYPES)} types of lines alone, any other one into texts of each kind. *Where* is"
-            " the number of line types and kinds in which a case finds the mistake, and *Cases* the number of these"
-            " cases.",
-            "",
-            f"The mistakes under {', '.join(OF_LINES)} can be in a line of any type: they were planted into"
-            f" {self.planted()} line types, and found in all but {sum(map(len, missing.values()))}. There the only"
-            " number of the line is K, which is as small as the number of lines:",
-            "",
-            *(f"- {what} `{'`, `'.join(own)}`" for what, own in missing.items()),
-        ]
-        where = Counter(number for number, place in self.finds() if place)
-        for number, it in enumerate(self.mistakes):
-            if it.family:
-                continue
-            if it.heading != heading:
-                heading = it.heading
-                rows += ["", f"## {heading}", "", "| Mistake | Where | Cases |", "|---|---|---|"]
-            rows.append(f"| {it.what} | {where[number] or ''} | {counts[number]} |")
-        return "\n".join([*rows, *self.families(counts), ""])
-
-    def families(self, counts: list[int]) -> Iterator[str]:
-        """Yields the lines on mistakes that differ in a byte, a word or a field alone."""
-        yield from ["", f"## {OF_TABLES}", "", "| Mistake | Number | Cases of each |", "|---|---|---|"]
-        for family in dict.fromkeys(it.family for it in self.mistakes if it.family):
-            own = [count for it, count in zip(self.mistakes, counts) if it.family == family]
-            yield f"| {family}. | {len(own)} | {min(own)} to {max(own)} |"
+def cases() -> Iterator[Case]:
+    """Yields the cases, each with its rule."""
+    yield from ({**case, "rule": rule["rule"]} for rule in rules() for case in rule["cases"])
 
 
-def parts(text: str) -> str | list[Any]:
-    """Returns a text; or if much of it is repeated, a list of strings, and of strings with the number of times that
-    they are repeated."""
-    found: list[Any] = []
-    at = 0
-    for it in REPEATED.finditer(text):
-        found += [*([text[at : it.start()]] if at < it.start() else []), [it[1], len(it[0]) // len(it[1])]]
-        at = it.end()
-    return [*found, *([text[at:]] if at < len(text) else [])] if found else text
+def joined(parts: Any) -> str:
+    """Returns a text of cases.json, which may be a list of strings, and of strings with how often they are repeated."""
+    return parts if isinstance(parts, str) else "".join(it if isinstance(it, str) else it[0] * it[1] for it in parts)
 
 
-def cases_json(entries: list[Entry]) -> str:
-    """Returns the text of a cases.json with these cases, with a case in each line."""
-    rules = []
-    for name, rule in RULES.items():
-        about = {"rule": name, "says": rule.says, "section": f"FORMAT.md#{anchor(rule.heading)}"}
-        lines = ",\n".join(dumped(it.fields()) for it in entries if it.case.rule == name)
-        rules.append(f'{dumped(about)[:-1]},"cases":[\n{lines}\n]}}')
-    return f'{{"version":{VERSION},"about":{json.dumps(ABOUT)},"rules":[\n' + ",\n".join(rules) + "\n]}\n"
+def texts(case: Case) -> list[str]:
+    return [joined(case[it]) for it in ("text", "left", "right", "with") if it in case]
 
 
-def known_ids() -> dict[str, str]:
-    """Returns the ids that cases have or had, with their checksums."""
-    return dict(line.split(" ") for line in text_of(IDS).splitlines() if not line.startswith("#"))
+def answer(case: Case, reader: ModuleType = reading) -> Case:
+    """Returns the answer of a case, as reading.py, or a changed copy of it, computes it."""
+    read = []
+    for name in ("text", "left", "right", "with"):
+        if name in case:
+            try:
+                read.append(reader.read(joined(case[name]).encode("latin-1")))
+            except reader.Fault as fault:
+                place, _, refusal = fault.line.partition(": ")
+                found = {"place": place if place == "end" else int(place), "refusal": refusal}
+                return found if len(texts(case)) == 1 else {"refused": name, **found}
+    if "left" in case:
+        return {"verdict": reader.difference(*read)}
+    if "with" in case:
+        why = reader.unfit(*read)
+        return {"unfit": why} if why else {"kind": read[0].kind, "fits": read[1].kind}
+    forms = (1, 2) if read[0].kind == "min" else (1,)
+    return {"kind": read[0].kind, "canon": [reader.canonical(read[0], it).decode() for it in forms]}
 
 
-def ids(entries: list[Entry]) -> str:
-    """Returns the list of ids, with those of new cases. An id that had another text is an error."""
-    known = known_ids()
-    for it in entries:
-        if known.setdefault(it.id, it.checksum()) != it.checksum():
-            raise ValueError(f"{it.id}: a case with another text had this id, which needs a new name")
-    head = (
-        "# The ids that cases of the conformance suite have or had, each with a checksum of its texts, so that an id\n"
+def told(case: Case) -> Case:
+    """Returns the answer that cases.json has for a case."""
+    names = ("place", "refusal", "refused", "verdict", "unfit", "kind", "fits", "canon")
+    found = {it: case[it] for it in names if it in case}
+    return {**found, "canon": [joined(it) for it in found["canon"]]} if "canon" in found else found
+
+
+def released() -> dict[str, list[str]]:
+    """Returns the texts of the cases of the last release, by their ids: an id is never given to other texts."""
+    commit = run(["git", "-C", ROOT, "log", "-1", "--format=%H", "--", "released/buildinfo"]).out.decode().strip()
+    kept = run(["git", "-C", ROOT, "show", f"{commit}:share/conformance/cases.json"])
+    return (
+        {} if kept.status else {it["id"]: texts(it) for rule in json.loads(kept.out)["rules"] for it in rule["cases"]}
     )
-    head += "# is never given to another text. tools/conformance-cases --write adds those of new cases.\n"
-    return head + "".join(f"{name} {checksum}\n" for name, checksum in sorted(known.items()))
 
 
-def dumped(it: dict[str, Any]) -> str:
-    return json.dumps(it, separators=(",", ":"))
+def add(rule: str, name: str, about: str, *given: str) -> None:
+    """Adds a case at the end of its rule."""
+    values = [
+        it.replace(" / ", "\n").encode("latin-1", "backslashreplace").decode("unicode_escape") + "\n" for it in given
+    ]
+    names = ["text"] if len(given) == 1 else ["left", "right"] if rule == "differ" else ["text", "with"]
+    case: Case = {"id": f"{rule}-{name}", "about": about, "profile": True, **dict(zip(names, values))}
+    line = json.dumps(case | answer(case), separators=(",", ":"))
+    text = text_of(FILE)
+    end = text.index("\n]}", text.index(f'{{"rule":"{rule}"'))
+    write(FILE, f"{text[:end]},\n{line}{text[end:]}")
 
 
-def anchor(heading: str) -> str:
-    """Returns the name of a heading in links, as GitHub spells it."""
-    return re.sub(r"[^\w\- ]", "", heading.lower()).replace(" ", "-")
+def reply(command: str, *words: str) -> str:
+    """Returns the line that answers a call of --batch."""
+    names = [it for at, it in enumerate(words) if not it.startswith("--") and words[at - 1 : at] != ("--form",)]
+    read = []
+    for name in names:
+        try:
+            read.append(reading.read(bytes_of(name)))
+        except reading.Fault as fault:
+            return f"{name}:{fault.line}"
+    if command == "canon":
+        return json.dumps(reading.canonical(read[0], int(words[1])).decode("latin-1"))
+    if command == "compare":
+        return reading.difference(*read)
+    why = reading.unfit(*read) if read[1:] else ""
+    fits = "".join(f" fits {it.kind}" for it in read[1:])
+    return f"{names[1]}: {why}" if why else f"accepted {read[0].kind}{fits}"
 
 
-def generated(suite: Suite) -> Iterator[tuple[str, str]]:
-    """Yields the paths and the texts of the generated files."""
-    yield f"{FOLDER}/cases.json", cases_json(suite.entries)
-    yield f"{FOLDER}/mistakes.md", suite.page()
-    yield IDS, ids(suite.entries)
+if __name__ == "__main__":
+    if sys.argv[1] == "add":
+        add(*sys.argv[2:])
+    for call in sys.stdin if sys.argv[1] == "batch" else ():
+        print(reply(*call.rstrip("\n").split("\t")), flush=True)

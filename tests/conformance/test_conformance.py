@@ -1,38 +1,34 @@
-"""The conformance suite in share/conformance: its generated files are up to date; the program passes also the cases
-from which its cases were chosen; the cases find every mistake of mistakes.txt, planted into reading.py; docs/FORMAT.md
-names the cases of each rule, and sentences.txt those of each sentence; what each level of run.py compares, and what it
-does with readers that fail; and reader.cc, a reader in C++, passes, and fails with the mistakes of
-reader-mistakes.txt."""
+"""The conformance suite in share/conformance: its answers are those of reading.py; the cases find each mistake of
+mutants.py that changes an answer; docs/FORMAT.md names the cases of each rule, and sentences.txt those of each
+sentence; what each level of run.py compares, and what it does with readers that fail."""
 
 import importlib
 import json
 import os
+import random
 import re
 import shlex
 import shutil
+import signal
 import stat
 import sys
 import time
-from collections import Counter
+from typing import NoReturn
 from xml.etree import ElementTree
 
-import mistakes
+import mutants
 import pytest
 import sentences
-from needs import leave_out, need
-from rules import RULES
+from needs import leave_out
 from shared import LIMIT, ROOT, Answer, bytes_of, listed, run, said, text_of, write
-from suite import FOLDER, VERSION, Suite, anchor, cases_json, generated, ids
+from suite import FOLDER, answer, cases, released, rules, texts, told
 
 sys.path.append(f"{ROOT}/tools")
 # The tools' folder must be on the path before this import.
-from pages import anchors  # noqa: E402
+from pages import anchors, anchors_in  # noqa: E402
 
 pytestmark = pytest.mark.whole
 RUN, FORMAT = f"{FOLDER}/run.py", "docs/FORMAT.md"
-# The least number of planted mistakes, the greatest number of cases, and the least share of the mistakes that a line of
-# any type can have, planted into each type, that cases find.
-LEAST, MOST, SHARE = 500, 2500, 0.98
 # A limit that no call of the program comes near, even on a busy machine: the suite prints a line on calls that do.
 PATIENT = ["--limit", str(5 * LIMIT)]
 # What follows "Cases:" in FORMAT.md: names, or a range of names.
@@ -48,8 +44,6 @@ READERS = [
     ("tells more", '"$P" "$@" && { [ "$1" != check ] || echo more; }', "compare"),
 ]
 TRIED = ["form", "refusal-4", "differ", "fit"]
-# The rules with which the reader in C++ is called once for each text, which depend most on how a text arrives.
-ARRIVING = ["first", "ninth", "line-end", "line-number", "long"]
 # Readers that fail, in sh, with a part of what run.py prints.
 FAILING = [
     ("does nothing", "exit 0", "first-min: a `min` text with a supply and a demand"),
@@ -97,13 +91,22 @@ WRONG: list[tuple[list[str], str]] = [
 ]
 
 
-CASES = [
-    {**it, "rule": rule["rule"]}
-    for rule in json.loads(text_of(f"{FOLDER}/cases.json"))["rules"]
-    for it in rule["cases"]
-]
-MISTAKES = [*mistakes.listed(f"{ROOT}/tests/conformance/reader-mistakes.txt")]
-GENERATED = pytest.mark.xdist_group("generated")
+CASES = [*cases()]
+# The cases in another order, in which a mistake is found soon.
+MIXED = random.Random(7).sample(CASES, len(CASES))
+# What begins the mistakes that change no answer, by their functions: they save time, or another test decides. The suite
+# does not ask for what the last functions print.
+SAME = {
+    "numbered": ("test of pieces",),
+    "value_of": ("test of if 99 <", "ops of 99 <"),
+    "fault_of_item": ("values of terminal and", "values of 'FLOW' in"),
+    "meaning": ("test of (units, cost",),
+    "how_of_min": ("test of how_of_costs", "ops of sum("),
+    "how_of_steps": ("values of units", "values of steps", "values of not steps", "op of own[0][1] - most"),
+    **dict.fromkeys(["shown", "words_on", "forms"], ("",)),
+}
+MUTANTS = [it for it in mutants.mutants() if not it.what.startswith(SAME.get(it.function, ()))]
+RULES = {it["rule"]: it for it in rules()}
 
 
 # Readers that use other statuses, or time: what each does, in sh, the words of run.py, and its status.
@@ -142,47 +145,49 @@ def made(tested: str, folder: str) -> Conformance:
     return Conformance(tested, folder)
 
 
-@pytest.fixture(scope="module")
-def suite() -> Suite:
-    """What the files are generated from. It takes a minute, so one process makes it."""
-    return Suite()
-
-
 def ids_of(rule: str) -> list[str]:
     """Returns the ids of the cases of a rule."""
     return [it["id"] for it in CASES if it["rule"] == rule]
 
 
-@GENERATED
-def test_up_to_date(suite: Suite) -> None:
-    changed = [os.path.relpath(path, ROOT) for path, text in generated(suite) if text_of(path) != text]
-    assert changed == [], "tools/conformance-cases --write makes them"
+def test_answers() -> None:
+    """The answers of cases.json are those of reading.py."""
+    assert [it["id"] for it in CASES if answer(it) != told(it)] == []
 
 
-@GENERATED
-def test_mistakes_found(suite: Suite) -> None:
-    """Cases find every mistake, and nearly all by line type."""
-    assert [mistake.what for mistake, count in zip(suite.mistakes, suite.counts()) if not count] == []
-    assert LEAST <= len(suite.mistakes)
-    missing = sum(map(len, suite.missing().values()))
-    assert missing <= (1 - SHARE) * suite.planted(), "mistakes by line type that no case finds"
+class Late(Exception):
+    """A reader does not end."""
 
 
-@GENERATED
-def test_cases(suite: Suite) -> None:
-    assert len(suite.entries) <= MOST
-    assert [it for it, count in Counter(it.id for it in suite.all).items() if count > 1] == [], "cases of one name"
-    assert sorted({*RULES} - {it.case.rule for it in suite.entries}) == [], "rules without cases"
+def late(*_: object) -> NoReturn:
+    raise Late
 
 
-@GENERATED
-def test_ids_kept(suite: Suite) -> None:
-    """An id is not given to another text."""
-    first, *others = suite.entries
-    ids([first, *others])
-    changed = first._replace(case=first.case._replace(text="p sp 7 0\n"))
-    with pytest.raises(ValueError, match=f"^{first.id}:"):
-        ids([changed, *others])
+def is_found(source: str) -> bool:
+    """Whether a wrong reader answers some case otherwise, fails, or does not end."""
+    wrong = mutants.reader(source)
+    kept = signal.signal(signal.SIGALRM, late)
+    try:
+        signal.alarm(LIMIT)
+        return any(answer(it, wrong) != told(it) for it in MIXED)
+    except Exception:
+        return True
+    finally:
+        signal.alarm(0)
+        signal.signal(signal.SIGALRM, kept)
+
+
+@pytest.mark.parametrize("function", sorted({it.function for it in MUTANTS}))
+def test_wrong_readers(function: str) -> None:
+    """The cases find each mistake in this function of reading.py."""
+    assert [it.what for it in MUTANTS if it.function == function and not is_found(it.source)] == []
+
+
+def test_ids_kept() -> None:
+    """Each case has an id of its own, which no release has given to other texts."""
+    kept, ids = released(), [it["id"] for it in CASES]
+    assert len({*ids}) == len(ids)
+    assert [it["id"] for it in CASES if kept.get(it["id"], texts(it)) != texts(it)] == []
 
 
 def test_schema() -> None:
@@ -198,28 +203,10 @@ def test_schema() -> None:
     assert not validator.is_valid(made), "a case without an answer"
 
 
-@GENERATED
-def test_cases_not_chosen(suite: Suite, made: Conformance) -> None:
-    """The program has the answers of tests/reading.py also in the cases that were not chosen for the suite,
-    which a copy of the folder has."""
-    copy = f"{made.folder}/copy"
-    os.mkdir(copy)
-    shutil.copy(RUN, copy)
-    found = made.run(made.tested, script=f"{copy}/run.py")
-    assert (found.status, b"cases.json: " in found.err) == (3, True), "without cases.json"
-    chosen = {it.id for it in suite.entries}
-    others = [it for it in suite.all if it.id not in chosen]
-    write(f"{copy}/cases.json", cases_json(others))
-    found = made.run("--level", "compare", *PATIENT, made.tested, script=f"{copy}/run.py")
-    wanted = f"{len(others)} cases pass, 0 fail (level compare)\n"
-    assert found == Answer(wanted.encode(), b"", 0), "the program, cases that were not chosen"
-
-
 def test_rules_named() -> None:
     """Docs/FORMAT.md names the cases of each rule below the heading of the rule."""
-    headings = {rule.heading for rule in RULES.values()}
-    known = anchors(FORMAT, ROOT)
-    assert sorted(it for it in headings if anchor(it) not in known) == [], "headings of rules"
+    anchor_of = {it: rule["section"].partition("#")[2] for it, rule in RULES.items()}
+    assert sorted({*anchor_of.values()} - anchors(FORMAT, ROOT)) == [], "headings of rules"
     parts = re.split(r"^## ", text_of(f"{ROOT}/{FORMAT}"), flags=re.M)[1:]
     for heading, _, section in (it.partition("\n") for it in parts):
         # Headings of the third level have rules of their own.
@@ -228,7 +215,7 @@ def test_rules_named() -> None:
             found = {name for it in NAMED.findall(told) for name in re.findall(r"`([\w-]+)`", it)}
             for low, high in RANGE.findall(told):
                 found |= {f"refusal-{it}" for it in range(int(low), int(high) + 1)}
-            wanted = {name for name, rule in RULES.items() if rule.heading == own}
+            wanted = {name for name, at in anchor_of.items() if {at} == anchors_in(f"# {own}\n")}
             assert sorted(found) == sorted(wanted), f"cases in {FORMAT}, {own}"
 
 
@@ -360,7 +347,7 @@ def test_shapes(made: Conformance) -> None:
         own = {name: case[name] for name in ("text", "with") if name in case}
         files = {name: bytes_of(f"{written}/{case['id']}.{name}").decode("latin-1") for name in own}
         assert files == own, f"--write, {case['id']}"
-    assert made.run("--version").out.decode() == f"cases {VERSION}\n", "--version"
+    assert made.run("--version").out.decode() == "cases 2\n", "--version"
 
 
 def test_messages(made: Conformance) -> None:
@@ -414,33 +401,13 @@ def test_by_module(made: Conformance) -> None:
     assert known == own, "what is installed of share/conformance"
 
 
-def compiled(source: str) -> None:
-    """Compiles the reader in C++ in this folder."""
-    need("c++")
-    write("reader.cc", source)
-    words = ["c++", "-std=c++17", "-O1", "-Wall", "-Wextra", "-o", "reader", "reader.cc"]
-    assert run(words, limit=5 * LIMIT) == said()
-
-
-@pytest.mark.parametrize("mistake", [None, *MISTAKES], ids=lambda it: it.what if it else "no mistake")
-def test_in_cpp(made: Conformance, mistake: mistakes.Mistake | None) -> None:
-    """The reader in C++, as it is and with each of its mistakes: the rules that the mistake names fail."""
-    source = text_of(f"{ROOT}/tests/conformance/reader.cc")
-    compiled(mistakes.planted(source, mistake) if mistake else source)
-    rules = mistake.rules if mistake else ARRIVING
-    found = made.run(*[word for it in rules for word in ("--rule", it)], "./reader")
-    failed = {it.split(b":")[0].decode() for it in found.out.splitlines() if not it.startswith(b" ")} & RULES.keys()
-    assert (found.status, failed) == ((1, {*rules}) if mistake else (0, set[str]()))
-
-
 def test_batch(made: Conformance) -> None:
-    """The reader in C++ passes with --batch."""
-    compiled(text_of(f"{ROOT}/tests/conformance/reader.cc"))
-    found = made.run("--batch", "./reader", "batch")
-    count = sum("with" not in it and "right" not in it for it in CASES)
+    """A reader that answers many calls: reading.py passes with --batch."""
+    found = made.run("--batch", "--level", "compare", sys.executable, f"{ROOT}/tests/conformance/suite.py", "batch")
+    count = len(CASES)
     # A line on slow cases may stand before the last one.
     last = found.out.decode().splitlines()[-1:]
-    assert (last, found.err, found.status) == ([f"{count} cases pass, 0 fail (level canon)"], b"", 0)
+    assert (last, found.err, found.status) == ([f"{count} cases pass, 0 fail (level compare)"], b"", 0)
 
 
 @pytest.mark.parametrize("script, told", BATCHES)
@@ -448,9 +415,3 @@ def test_failing_batch(made: Conformance, script: str, told: str) -> None:
     """What is told of readers that end or answer nothing."""
     found = made.run("--batch", "--limit", "0.1", "--case", "first-min", "--case", "first-max", made.reader(script))
     assert (found.err, found.status, found.out.decode().count(told)) == (b"", 1, 2)
-
-
-def test_library_readers() -> None:
-    """Readers.txt names only cases that exist."""
-    told = re.findall(r"^    (\S+)$", text_of(f"{FOLDER}/readers.txt"), re.M)
-    assert sorted({*told} - {it["id"] for it in CASES}) == [], "cases of readers.txt that do not exist"

@@ -35,7 +35,6 @@ WRITTEN = [
     ("share/rust/dnorm/src/refusal.rs", "1 to 21", "1 to 22"),
     ("python/src/dnorm/refusals.py", '"LateNode"', '"Late"'),
     ("bench/baselines/btree.rs", '    "LateNode",\n', ""),
-    ("tests/conformance/reader.cc", '"LateNode", ', ""),
     ("tests/reading.py", "LateNode ", ""),
     *((f"docs/{it}.md", "1 to 21", "1 to 22") for it in ["LIBRARY", "MANUAL", "REFUSALS"]),
 ]
@@ -52,7 +51,6 @@ TOLD = [
     ("docs/FORMAT.md", "and then 1 to 17", "and then 1 to 16"),
     ("share/man/man1/dnorm.1", "and then 1 to 17", "and then 2 to 17"),
     ("crates/dn_line/src/code.rt", ": 21 is checked first", ": 20 is checked first"),
-    ("tests/conformance/rules.py", '"refusal-6": Rule("LateNode', '"refusal-6": Rule("Late'),
     ("share/refusals.txt", " 6   60", " 7   60"),
     ("share/refusals.txt", " 6   60", " 6   70"),
     ("share/refusals.txt", "DNORM_LATE_NODE ", "DNORM_LATENODE "),
@@ -70,19 +68,12 @@ LACKING = [
     ("share/man/man3/dnorm.h.3", "LATE_NODE", "LATE"),
     ("tests/conformance/sentences.txt", "| 6 | LateNode", "| 6 | Late"),
     ("tests/reading.py", "        return 6\n", "        return 0\n"),
-    ("tests/conformance/reader.cc", "return 6;", "return 0;"),
     ("bench/baselines/btree.rs", "Err(6)", "Err(0)"),
 ]
 # The files in which a new rule is lacking, once tools/refusals has written the lists of it: those edited by hand, and
 # those that other scripts make.
 BY_HAND = {
-    *(
-        "bench/baselines/btree.rs",
-        "tests/conformance/mistakes.txt",
-        "tests/conformance/reader.cc",
-        "tests/reading.py",
-        "tests/conformance/rules.py",
-    ),
+    *("bench/baselines/btree.rs", "tests/reading.py"),
     *("crates/dn_line/specs or crates/dn_instance/specs", "crates/dn_line/src or crates/dn_instance/src"),
     *("crates/dn_line/src/code.rt", "crates/dn_laws/src/instances/examples.rt", "crates/dn_tests/src/commands.rt"),
     *("docs/FORMAT.md", "docs/REFUSALS.md", "examples/refused", "share/installed.txt", "share/conformance/cases.json"),
