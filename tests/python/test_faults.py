@@ -174,7 +174,7 @@ def test_targets() -> None:
         assert cat.communicate()[0] == ROADS_CANON, "a pipe"
 
 
-FORMED: list[Callable[[dnorm.File, int], object]] = [dnorm.canon, dnorm.checksum, dnorm.read]
+FORMED: list[Callable[[dnorm.File, Any], object]] = [dnorm.canon, dnorm.checksum, dnorm.read]
 
 
 def test_sinks() -> None:

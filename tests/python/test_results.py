@@ -14,6 +14,7 @@ import signal
 import sys
 import time
 from collections.abc import Callable
+from fractions import Fraction
 from typing import Any
 from xml.etree import ElementTree
 
@@ -24,7 +25,7 @@ from needs import leave_out
 from reading import Text as Known
 from reading import Fault, canonical, read
 from shared import ROOT, bytes_of, python_with, run, said, write
-from test_calls import BOTH, COMPRESS, READS, fake, told
+from test_calls import ALL, BOTH, COMPRESS, READS, fake, told
 from test_folders import ENVIRONMENT, make, module, on_terminal
 from texts import lines_of, made, spelled
 
@@ -36,6 +37,7 @@ from dnorm.limits import Limit
 
 pytestmark = READS
 SEED, ROUNDS = 21, 60
+INFINITE = float("inf")
 # Refused texts, with the line and the hint of the refusal. A file is "t.gr".
 MANY = b"p max 3 3\nn 1 s\nn 3 t\na 1 2 9223372036854775800\na 1 3 1\na 1 2 8\n"
 NUL_WITHIN = "The line has NUL within, where data may be lost: get the file again"
@@ -426,8 +428,7 @@ class SlowLibrary:
 
 
 def test_long_steps() -> None:
-    """A step of the library that takes long ends no later than the limit, and frees its memory at its end;
-    and that limits are not below 0."""
+    """A step of the library that takes long ends no later than the limit, and frees its memory at its end."""
     library: Any = SlowLibrary()
     start = time.monotonic()
     with contextlib.ExitStack() as stack:
@@ -442,9 +443,41 @@ def test_long_steps() -> None:
     setattr(dnorm.reader, "instance", lack_memory)
     assert told(lambda: dnorm.read(ROADS)) == "Memory: -: 30 Memory", "little memory for columns"
     setattr(dnorm.reader, "instance", kept)
-    assert (
-        told(lambda: dnorm.check(ROADS, timeout=-1)) == "ValueError: timeout is at least 0, and not -1"
-    ), "a limit below 0"
+
+
+# Limits that no call takes.
+NO_LIMITS: list[Any] = [-1, INFINITE, -INFINITE, float("nan"), 1e300, 10**400, 10**9 + 1, "5", b"5", [5]]
+
+
+@ALL
+def test_limits() -> None:
+    """Limits that are no number of seconds, or one that no clock reaches, and the greatest limit."""
+    write("t.gr", ROADS)
+    write("t.gr.gz", gzip.compress(ROADS))
+    calls: list[Callable[[Any], object]] = [
+        lambda it: dnorm.check("t.gr", timeout=it),
+        lambda it: dnorm.canon(ROADS, timeout=it),
+        lambda it: dnorm.canon_to(ROADS, "new.gr", timeout=it),
+        lambda it: dnorm.checksum("t.gr.gz", timeout=it),
+        lambda it: dnorm.compare("t.gr", "t.gr.gz", timeout=it),
+        lambda it: dnorm.differences("t.gr.gz", "t.gr", timeout=it),
+        lambda it: dnorm.show("t.gr", timeout=it),
+        lambda it: dnorm.read("t.gr.gz", timeout=it),
+        lambda it: dnorm.write(dnorm.read(ROADS), io.BytesIO(), timeout=it),
+    ]
+    for call in calls:
+        for limit in NO_LIMITS:
+            found = told(lambda: call(limit))
+            is_number = isinstance(limit, (int, float))
+            kind = f"at least 0 and at most 1000000000 seconds, and not {limit}" if is_number else "a number of seconds, "
+            assert found.startswith(f"{'ValueError' if is_number else 'TypeError'}: timeout is {kind}"), found
+        for limit in [10**9, 1e9, Fraction(10**9)]:
+            assert told(lambda: call(limit)) == told(lambda: call(None)), "the greatest limit"
+    assert sorted(os.listdir(".")) == ["new.gr", "t.gr", "t.gr.gz"], "what is left"
+    for pairs in [-1, 1.5, INFINITE, "1"]:
+        wanted = "ValueError: limit is at least 0, and not -1" if pairs == -1 else "TypeError: limit: "
+        found = told(lambda: dnorm.differences("t.gr", "t.gr", pairs))  # type: ignore[arg-type]
+        assert found.startswith(wanted), "a limit of pairs"
 
 
 def before(rows: list[tuple[str, Callable[[], object], str]]) -> None:

@@ -18,6 +18,7 @@ from .. import __version__
 from ..console import SIGNALS, Console, Stopped, for_terminal, has_output, stop
 from ..errors import DnormError, Read, Refused, Write
 from ..files import failing
+from ..limits import LONGEST
 from ..names import ENDINGS
 from ..program import processors, version
 from .reports import cause_of, line_of
@@ -149,8 +150,8 @@ def parsed(words: Sequence[str]) -> argparse.Namespace:
     error = found.parser.error
     if others:
         error(f"unrecognized arguments: {' '.join(others)}")
-    if found.timeout is not None and found.timeout <= 0:
-        error("--timeout is above 0")
+    if found.timeout is not None and not 0 < found.timeout <= LONGEST:
+        error(f"--timeout is above 0, and at most {LONGEST} seconds")
     if "path" in found:
         check_files(found, error)
     elif found.limit < 0:
