@@ -11,11 +11,12 @@ import os
 import re
 import shutil
 from collections.abc import Callable
+from typing import Any
 
 import pytest
 from known import ROADS, ROADS_CANON
 from needs import leave_out, pass_over
-from shared import ROOT, Answer, bytes_of, run, said, text_of, write
+from shared import ROOT, Answer, bytes_of, own_folder, run, said, text_of, write
 
 pytestmark = pytest.mark.whole
 # What a scratch repository has of this one.
@@ -56,7 +57,10 @@ class Clone:
             os.makedirs(os.path.dirname(f"{folder}/{it}"), exist_ok=True)
             shutil.copy(f"{ROOT}/{it}", f"{folder}/{it}")
         for name, text in {
-            "crates.txt": "dnorm:\ndn_c staticlib:\n",
+            "crates.txt": "dn_low:\ndnorm: dn_low\ndn_c staticlib:\n",
+            "crates/dn_low/src/lib.rt": "// a source\n",
+            "crates/dn_low/specs/State/Low.antt": "low : Nat\n",
+            "crates/dn_low/proofs/low/Proof.antt": "proof = low\n",
             "crates/dnorm/src/main.rt": "// a source\n",
             "crates/dn_c/src/lib.rt": "// a source\n",
             "share/installed.txt": "".join(f"{it}\n" for it in INSTALLED),
@@ -137,7 +141,7 @@ def test_takes(clone: Clone) -> None:
     runs("a source with a later time", clone)
     for name, other in [
         (source, "// another\n"),
-        ("crates.txt", "dnorm: \ndn_c staticlib:\n"),
+        ("crates.txt", "dn_low:\ndnorm:  dn_low\ndn_c staticlib:\n"),
         ("kit.txt", f"{KIT}x\n"),
     ]:
         kept = bytes_of(f"{clone.folder}/{name}")
@@ -161,13 +165,88 @@ def test_takes(clone: Clone) -> None:
     runs("a source less, as before", clone)
     clone.write(f"{OUT}/dnorm", "#!/bin/sh\necho built\n")
     os.chmod(f"{clone.folder}/{OUT}/dnorm", 0o755)
-    clone.write(f"{OUT}/built", "")
+    clone.write(f"{OUT}/built", clone.run("tools/source-sum", "--list", "program").out)
     assert clone.run("dnorm") == said("built\n"), "./dnorm, a built program"
     clone.write(source, text)
     runs("a built program that is older than a source", clone)
     shutil.rmtree(f"{clone.folder}/{OUT}")
     clone.write(OUT, "")
     runs("where no mark can be written", clone)
+
+
+# Puts a file back.
+BACK = "mv ../kept {}"
+# What is changed in a scratch repository: commands of bash in its folder, after each of which the released program was
+# not made from the sources; and those that undo it.
+CHANGES = {
+    "an edited source": ("echo x >> {}", "sed -i '$ d' {}"),
+    "an edit that keeps the size and the time": ("cp -p {} ../kept; tr o 0 < ../kept > {}; touch -r ../kept {}", BACK),
+    "another file by cp -p": ("cp -p {} ../kept; touch -d @9 ../other; cp -p ../other {}", BACK),
+    "another file by mv": ("cp -p {} ../kept; touch -d @9 ../other; mv ../other {}", BACK),
+    "a removed file": ("mv {} ../kept", BACK),
+    "a new file": ("touch -d @9 $(dirname {})/more", "rm $(dirname {})/more"),
+    "a new folder": ("mkdir $(dirname {})/new; touch $(dirname {})/new/more", "rm -r $(dirname {})/new"),
+    "another name": ("mv {} {}.old", "mv {}.old {}"),
+}
+DECIDING = ["dn_low/src/lib.rt", "dn_low/specs/State/Low.antt", "dn_low/proofs/low/Proof.antt", "dnorm/src/main.rt"]
+# A find that takes no list, as that of findutils before 4.9.
+OLD_FIND = "#!/bin/sh\ncase $* in *-files0-from*) exit 1 ;; esac\nexec /usr/bin/find \"$@\"\n"
+
+
+@pytest.mark.parametrize("what", CHANGES)
+def test_notices(clone: Clone, what: str) -> None:
+    """Which changes ./dnorm notices after a call that has checked all: those of each file that decides."""
+    change, back = CHANGES[what]
+    clone.write("bin/find", OLD_FIND)
+    os.chmod(f"{clone.folder}/bin/find", 0o755)
+    for name in DECIDING:
+        for path in [WITHOUT_RT, f"{clone.folder}/bin:{WITHOUT_RT}"]:
+            runs("before", clone, path)
+            for command, is_same in [(change, False), (back, True)]:
+                place = f"crates/{name}"
+                assert run(["bash", "-c", command.replace("{}", place)], cwd=clone.folder) == said(), command
+                (runs(f"{what} undone", clone, path) if is_same else stops(f"{what}: {place}", clone, NO_RT, path))
+
+
+@pytest.mark.parametrize("words", ["mv", "cp -r", "cp -a"])
+def test_moved(clone: Clone, words: str) -> None:
+    """A clone that is moved or copied, whose source then changes."""
+    runs("before", clone)
+    assert run([*words.split(), clone.folder, f"{clone.folder} at another place"]) == said()
+    clone.folder += " at another place"
+    runs(words, clone)
+    clone.write("crates/dnorm/src/main.rt", "// another\n")
+    stops(f"another source after {words}", clone, NO_RT)
+
+
+def test_read_only(clone: Clone, tested: str) -> None:
+    """A clone of another user, which this one may not write: without a mark, and with that of the other user."""
+    if os.geteuid():
+        pass_over("root, who runs a clone as another user")
+    own: dict[str, Any] = {"user": 65534, "group": 65534, "extra_groups": [], "cwd": "/", "env": {"PATH": WITHOUT_RT}}
+    with own_folder("clone") as place:
+        os.chmod(place, 0o755)
+        other = Clone(f"{place}/a clone", tested)
+        for _ in range(2):
+            assert run([f"{other.folder}/dnorm"], ROADS, **own) == said(ROADS_CANON), "as it was"
+            other.write("crates/dnorm/src/main.rt", "// another\n")
+            found = run([f"{other.folder}/dnorm"], ROADS, **own)
+            assert (found.out, found.status) == (b"", 125), "another source"
+            other.write("crates/dnorm/src/main.rt", "// a source\n")
+            runs("by the other user", other)
+
+
+def test_ways_to_call(clone: Clone) -> None:
+    """./dnorm by other paths, a link and PATH, also where CDPATH is set."""
+    os.symlink(f"{clone.folder}/dnorm", "linked")
+    os.mkdir("elsewhere")
+    below = os.path.basename(clone.folder)
+    own = {**os.environ, "PATH": f"{clone.folder}:{WITHOUT_RT}", "CDPATH": f"{os.getcwd()}/elsewhere"}
+    os.makedirs(f"elsewhere/{below}")
+    for words in [["./linked"], [f"./{below}/dnorm"], [f"{below}/dnorm"], ["dnorm"], ["bash", f"{below}/dnorm"]]:
+        for _ in range(2):
+            assert run(words, ROADS, env=own) == said(ROADS_CANON), words
+    assert run(["bash", "dnorm"], ROADS, cwd=clone.folder, env=own) == said(ROADS_CANON), "bash dnorm"
 
 
 def flip(path: str) -> None:
