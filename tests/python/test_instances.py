@@ -205,7 +205,9 @@ def test_numpy() -> None:
     ]:
         assert told(call).startswith("TypeError: sources"), "masked, nested and other numbers"
     too_large = numpy.array([2**63], "uint64")
-    assert told(lambda: dnorm.from_arrays("ss", sources=too_large)).startswith("OverflowError: sources has 9223"), "2^63"
+    assert told(lambda: dnorm.from_arrays("ss", sources=too_large)).startswith(
+        "OverflowError: sources has 9223"
+    ), "2^63"
 
 
 @ALL
@@ -228,7 +230,10 @@ def test_checked_numbers() -> None:
         (lambda: ends({"source": 0}), "ValueError: source is 0, which is no node of 1 to 2: nodes count from 1"),
         (lambda: ends({"sink": 3}), "ValueError: sink is 3, which is no node of 1 to 2: nodes count from 1"),
         (lambda: flows({1: 4.7}), "TypeError: supplies[1]: 'float' object cannot be interpreted as an integer"),
-        (lambda: flows({"1 s": 4}), "TypeError: node '1 s' of supplies: 'str' object cannot be interpreted as an integer"),
+        (
+            lambda: flows({"1 s": 4}),
+            "TypeError: node '1 s' of supplies: 'str' object cannot be interpreted as an integer",
+        ),
         (lambda: flows({0: 5}), "ValueError: supplies has node 0, which is none of 1 to 2: nodes count from 1"),
         (lambda: flows({3: 5}), "ValueError: supplies has node 3, which is none of 1 to 2: nodes count from 1"),
         (lambda: flows([5]), "ValueError: supplies has 1 numbers, and there are 2 nodes"),
@@ -257,9 +262,15 @@ def test_constructors() -> None:
     listed: Any = [1]
     rows: list[tuple[Callable[[], object], str]] = [
         (lambda: dnorm.Sp(2, listed, listed, listed), f"TypeError: tails is an array of 64 signed bits, {other}"),
-        (lambda: arrays({"lengths": [1.5]}), "TypeError: lengths[0]: 'float' object cannot be interpreted as an integer"),
+        (
+            lambda: arrays({"lengths": [1.5]}),
+            "TypeError: lengths[0]: 'float' object cannot be interpreted as an integer",
+        ),
         (lambda: arrays({"lengths": ["3"]}), "TypeError: lengths[0]: 'str' object cannot be interpreted as an integer"),
-        (lambda: arrays({"lengths": [[3]]}), "TypeError: lengths[0]: 'list' object cannot be interpreted as an integer"),
+        (
+            lambda: arrays({"lengths": [[3]]}),
+            "TypeError: lengths[0]: 'list' object cannot be interpreted as an integer",
+        ),
         (lambda: arrays({"lengths": [3, 4]}), "ValueError: tails and lengths have 1 and 2 numbers"),
         (lambda: arrays({"heads": []}), "ValueError: tails and heads have 1 and 0 numbers"),
     ]
@@ -360,7 +371,9 @@ def test_typed() -> None:
     )
     wanted = "10 None 9\ncost of 1 2 same\n-1 at 5 from 1 MIN and SP\n(2, 'NodeOutOfRange') (None, 'sp (1, 2)')\n"
     wanted += "p sp 2 2\na 1 2 7\na 1 2 4\n2 [7, 4]\n90\n(11, 2)\n2 edges, 2 entries, 2 rows, 4 the least\n"
-    lacking = [it for it in ["numpy", "networkx", "scipy", "pandas"] if run([sys.executable, "-c", f"import {it}"]).status]
+    lacking = [
+        it for it in ["numpy", "networkx", "scipy", "pandas"] if run([sys.executable, "-c", f"import {it}"]).status
+    ]
     # Without one of these, the page ends before the line that needs it.
     assert (wanted.startswith(found.out.decode()), found.err, found.status) == (True, b"", 0), "typed.py"
     if lacking:

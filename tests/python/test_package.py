@@ -3,12 +3,14 @@ and some calls by each Python on the path."""
 
 import doctest
 import os
+import shlex
 import shutil
 import sys
+from collections import Counter
 
 import pytest
 from needs import pass_over
-from shared import ROOT, run, said
+from shared import ROOT, run, said, text_of, write
 from test_calls import READS
 from test_folders import ENVIRONMENT
 
@@ -68,6 +70,40 @@ def test_python(name: str) -> None:
         assert run([name, "-W", "error", *words], cwd=ROOT, env=environment) == said(out)
     found = run([name, "-m", "dnorm", "check", "examples/roads.gr"], cwd=ROOT, env=environment)
     assert (found.out, found.status) == (b"examples/roads.gr: accepted sp\n", 0)
+
+
+# What the `./dnorm` and the tools/program of a clone do, in sh, and how often each is called for two files.
+CLONES = {
+    "a program": ('echo own >> log; exec "$P" "$@"', "echo found >> log; echo $P", {"found": 1}),
+    "no program yet": ('echo own >> log; exec "$P" "$@"', "echo found >> log; exit 125", {"found": 1, "own": 3}),
+}
+
+
+@pytest.mark.parametrize("what", CLONES)
+def test_clone(tested: str, folder: str, what: str) -> None:
+    """dnorm-files of a clone asks once which program ./dnorm runs, and not for each file."""
+    own, finder, wanted = CLONES[what]
+    os.makedirs("clone/tools")
+    os.symlink(f"{ROOT}/python", "clone/python")
+    shutil.copy(f"{ROOT}/dnorm-files", "clone/dnorm-files")
+    for path, text in [("clone/dnorm", own), ("clone/tools/program", finder)]:
+        write(path, f"#!/bin/sh\nP={shlex.quote(tested)}\n{text}\n")
+        os.chmod(path, 0o755)
+    write("log", "")
+    environment = {it: value for it, value in os.environ.items() if it not in ("DNORM", "DNORM_LIBRARY")}
+    found = run(
+        ["clone/dnorm-files", "check", *[f"{ROOT}/examples/{it}" for it in ("roads.gr", "flow.min")]], env=environment
+    )
+    assert (found.status, dict(Counter(text_of("log").split()))) == (0, wanted), found
+
+
+@pytest.mark.parametrize("name", ["dnorm-files", "dnorm-explain"])
+def test_without_python(folder: str, name: str) -> None:
+    os.mkdir("bin")
+    for it in ["sh", "dirname", "readlink"]:
+        os.symlink(shutil.which(it) or "", f"bin/{it}")
+    wanted = said("", "dnorm-files: it needs Python 3.9 or later, and there is no python3 on the path\n", 127)
+    assert run([f"{ROOT}/{name}", "check", "t.gr"], env={"PATH": f"{folder}/bin"}) == wanted
 
 
 def test_examples(monkeypatch: pytest.MonkeyPatch) -> None:

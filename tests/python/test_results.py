@@ -469,7 +469,9 @@ def test_limits() -> None:
         for limit in NO_LIMITS:
             found = told(lambda: call(limit))
             is_number = isinstance(limit, (int, float))
-            kind = f"at least 0 and at most 1000000000 seconds, and not {limit}" if is_number else "a number of seconds, "
+            kind = (
+                f"at least 0 and at most 1000000000 seconds, and not {limit}" if is_number else "a number of seconds, "
+            )
             assert found.startswith(f"{'ValueError' if is_number else 'TypeError'}: timeout is {kind}"), found
         for limit in [10**9, 1e9, Fraction(10**9)]:
             assert told(lambda: call(limit)) == told(lambda: call(None)), "the greatest limit"

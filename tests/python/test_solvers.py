@@ -194,7 +194,11 @@ def test_unfit() -> None:
         (dnorm.Sp, networkx.Graph([(1, 2)]), "ValueError: the graph is undirected: "),
         (dnorm.Sp, networkx.DiGraph([(0, 1)]), "ValueError: the 2 nodes are not the numbers 1 to 2"),
         (dnorm.Sp, networkx.DiGraph([("a", "b")]), "ValueError: the 2 nodes are not the numbers 1 to 2"),
-        (dnorm.Sp, networkx.DiGraph([(1, 2, {"weight": 0.5})]), "TypeError: the weight of the edge from 1 to 2 is 0.5: '"),
+        (
+            dnorm.Sp,
+            networkx.DiGraph([(1, 2, {"weight": 0.5})]),
+            "TypeError: the weight of the edge from 1 to 2 is 0.5: '",
+        ),
         (dnorm.Sp, arc(weight=5.0), "TypeError: the weight of the edge from 1 to 2 is 5.0: 'float' object cannot be "),
         (dnorm.Min, arc(weight="5"), "TypeError: the weight of the edge from 1 to 2 is '5': 'str' object cannot be "),
         (dnorm.Max, arc(capacity=INFINITE), "TypeError: the capacity of the edge from 1 to 2 is inf: 'float' object "),
@@ -203,7 +207,11 @@ def test_unfit() -> None:
         (dnorm.Sp, arc(weight=2**63), "OverflowError: the weight of the edge from 1 to 2 is 9223372036854775808: "),
         (dnorm.Min, arc(low=2**63 - 1), "OverflowError: the low with the capacity of the edge from 1 to 2 is 922337"),
         (dnorm.Min, demanding(1, 1.5), "TypeError: the demand of node 1: 'float' object cannot be interpreted as an "),
-        (dnorm.Min, demanding(2, 2**63), "OverflowError: the demand of node 2 is 9223372036854775808, which does not "),
+        (
+            dnorm.Min,
+            demanding(2, 2**63),
+            "OverflowError: the demand of node 2 is 9223372036854775808, which does not ",
+        ),
         (dnorm.Max, arc(source=1, sink=3), "ValueError: sink is 3, which is no node of 1 to 2: nodes count from 1"),
         (dnorm.Max, networkx.DiGraph([(1, 2)], source=1, sink=2), "ValueError: the edge from 1 to 2 has no capacity"),
         (
@@ -267,13 +275,28 @@ def test_options() -> None:
     made_of: Any = dnorm.from_scipy
     wrong: list[tuple[Any, Any, dict[str, int], str]] = [
         ("sp", sparse.csr_matrix((2, 3), dtype=int), {}, "ValueError: the matrix is not square: its shape is (2, 3)"),
-        ("sp", sparse.csr_matrix([[0, 0.5], [0, 0]]), {}, "TypeError: the matrix has numbers of float64, as 0.5 in row "),
+        (
+            "sp",
+            sparse.csr_matrix([[0, 0.5], [0, 0]]),
+            {},
+            "TypeError: the matrix has numbers of float64, as 0.5 in row ",
+        ),
         ("sp", sparse.csr_matrix([[7]]).toarray(), {}, "TypeError: a sparse matrix is wanted, and not ndarray: scipy."),
         ("sp", [[7]], {}, "TypeError: a sparse matrix is wanted, and not list: "),
-        ("sp", sparse.coo_matrix(([3, 4], ([0, 0], [0, 0]))), {}, "ValueError: the matrix has two entries at one place"),
+        (
+            "sp",
+            sparse.coo_matrix(([3, 4], ([0, 0], [0, 0]))),
+            {},
+            "ValueError: the matrix has two entries at one place",
+        ),
         ("sp", sparse.csr_matrix([[1]]), {"sink": 1}, "TypeError: Sp takes no sink"),
         ("max", sparse.csr_matrix([[1]]), {}, "TypeError: source and sink are missing: the nodes"),
-        ("max", flow.to_scipy(), {"source": 0, "sink": 2}, "ValueError: source is 0, which is no node of 1 to 3: nodes"),
+        (
+            "max",
+            flow.to_scipy(),
+            {"source": 0, "sink": 2},
+            "ValueError: source is 0, which is no node of 1 to 3: nodes",
+        ),
         ("max", flow.to_scipy(), {"source": 1, "sink": 4}, "ValueError: sink is 4, which is no node of 1 to 3: nodes"),
         (dnorm.Min, sparse.csr_matrix([[1]]), {}, "TypeError: from_scipy makes Sp and Max, and not Min"),
     ]

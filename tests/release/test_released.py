@@ -190,7 +190,7 @@ CHANGES = {
 }
 DECIDING = ["dn_low/src/lib.rt", "dn_low/specs/State/Low.antt", "dn_low/proofs/low/Proof.antt", "dnorm/src/main.rt"]
 # A find that takes no list, as that of findutils before 4.9.
-OLD_FIND = "#!/bin/sh\ncase $* in *-files0-from*) exit 1 ;; esac\nexec /usr/bin/find \"$@\"\n"
+OLD_FIND = '#!/bin/sh\ncase $* in *-files0-from*) exit 1 ;; esac\nexec /usr/bin/find "$@"\n'
 
 
 @pytest.mark.parametrize("what", CHANGES)
