@@ -20,6 +20,8 @@ from reading import MOST
 from shared import LIMIT, ROOT, Answer, pipe, run, said, text_of, write
 from texts import lines_of, made, spelled, spoilt
 
+from dnorm.parts.line import jobs_at_once
+
 pytestmark = pytest.mark.whole
 SCRIPT = f"{ROOT}/scale/canon-in-parts"
 HALF = MOST // 2 + 1
@@ -300,9 +302,33 @@ def is_running(process: str) -> bool:
         return False
 
 
-@pytest.mark.parametrize("jobs", ["1", "0", "+1", "-1", "-99", "50%", "300%"])
-def test_jobs(scale: Scale, jobs: str) -> None:
+# What --jobs takes, and how many jobs that is with 8 processors, as GNU parallel has it.
+JOBS = {"1": 1, "3": 3, "0": 1000, "+1": 9, "-1": 7, "-99": 1, "50%": 4, "1%": 1, "300%": 24}
+
+
+@pytest.mark.parametrize("jobs", JOBS)
+def test_jobs(scale: Scale, monkeypatch: pytest.MonkeyPatch, jobs: str) -> None:
     assert scale.run("--lines=2", f"--jobs={jobs}", "-", given=SUPPLIES) == run([scale.program, "canon", "-"], SUPPLIES)
+    monkeypatch.setattr("dnorm.parts.line.processors", lambda: 8)
+    assert (jobs_at_once(jobs), jobs_at_once(None)) == (JOBS[jobs], 8)
+
+
+@pytest.mark.parametrize("count", [1, 3])
+def test_jobs_at_once(scale: Scale, count: int) -> None:
+    """As many jobs run at once as were asked for."""
+    write("log", "")
+    own = scale.stand_in("echo + >> log; sleep 0.3; echo - >> log")
+    scale.run("--lines=1", f"--jobs={count}", "-", given=SUPPLIES, tested=own)
+    steps = [1 if it == "+" else -1 for it in text_of("log").split()]
+    assert max(sum(steps[:at]) for at in range(len(steps) + 1)) == count
+
+
+@pytest.mark.parametrize(
+    "words", ["--jobs nan", "--jobs 1.5", "--jobs +50%", "--lines inf", "--parts -1", "--form nan"]
+)
+def test_no_numbers(scale: Scale, words: str) -> None:
+    found = scale.run(*words.split(), "-", given=SUPPLIES)
+    assert (found.out, found.status, len(found.err.splitlines())) == (b"", 3, 1)
 
 
 def test_without_parallel(scale: Scale) -> None:

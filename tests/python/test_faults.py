@@ -14,6 +14,7 @@ from collections.abc import Callable
 from pathlib import Path
 from typing import Any
 
+import pytest
 from known import ROADS, ROADS_CANON
 from shared import LIMIT, bytes_of, run, write
 from test_calls import BOTH, CALLS, COMPRESS, PACKAGE, READS, fake, told
@@ -172,6 +173,21 @@ def test_targets() -> None:
     with subprocess.Popen(["cat", "pipe"], stdout=subprocess.PIPE) as cat:
         dnorm.canon_to(ROADS, "pipe")
         assert cat.communicate()[0] == ROADS_CANON, "a pipe"
+
+
+def test_synced(monkeypatch: pytest.MonkeyPatch) -> None:
+    """A new file is on the disk before it takes the place of the old one."""
+    steps: list[tuple[str, int]] = []
+    sync, replace = os.fsync, os.replace
+    monkeypatch.setattr(os, "fsync", lambda fd: (steps.append(("sync", os.fstat(fd).st_ino)), sync(fd)))
+    monkeypatch.setattr(
+        os, "replace", lambda one, to: (steps.append(("replace", os.stat(one).st_ino)), replace(one, to))
+    )
+    for name in ["t.gr", "t.gr.gz", "t.gr"]:
+        steps.clear()
+        dnorm.canon_to(ROADS, name)
+        inode = os.stat(name).st_ino
+        assert steps == [("sync", inode), ("replace", inode)], name
 
 
 FORMED: list[Callable[[dnorm.File, Any], object]] = [dnorm.canon, dnorm.checksum, dnorm.read]

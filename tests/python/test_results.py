@@ -726,6 +726,10 @@ def test_comparisons(tested: str) -> None:
     short = "<dnorm.Differences: differ pair 1 2 length 3 none, only_left=5, only_right=0, both=0, different=0>"
     assert repr(dnorm.differences(ROADS, b"p sp 3 0\n")) == short, "the repr of differences"
     assert repr(dnorm.show(b"p aux sp ss 0\n")) == "<dnorm.Shown: kind='ss', lines=0>", "a companion's repr"
+    html = shown._repr_html_()
+    assert (html.count("<tr>"), html.count("<td>...</td>")) == (12, 3) and "<td>length</td></tr><tr><td>1</td>" in html
+    html = dnorm.differences(ROADS, b"p sp 3 0\n")._repr_html_()
+    assert html.startswith("<p>&lt;dnorm.Differences: ") and html.count("<tr>") == 6 and "<td>(1, 2)</td>" in html, html
 
 
 def test_compared_quietly() -> None:
@@ -753,6 +757,9 @@ def by_pair(text: Known) -> dict[tuple[str, ...], list[list[str]]]:
     return found
 
 
+ENDS = {"source": "s", "sink": "t"}
+
+
 @BOTH
 def test_summaries() -> None:
     """Tests `differences` on random pairs of graphs, beside a count of the pairs of their canonical texts."""
@@ -777,6 +784,11 @@ def test_summaries() -> None:
             assert found.reversed == tuple(sorted(tuple(map(int, it)) for it in turned)), "reversed ones"
             assert sum(count for _, count in found.fields) == len(different), "their fields"
             assert str(found.first) == str(dnorm.compare(one, other)), "the first one"
+            flows = [it for it in {*left.flows, *right.flows} if left.flows.get(it, 0) != right.flows.get(it, 0)]
+            ends = [("nodes", left.nodes, right.nodes)]
+            ends += [(name, left.terminals.get(it, 0), right.terminals.get(it, 0)) for name, it in ENDS.items()]
+            unlike = tuple(it for it in ends if it[1] != it[2])
+            assert (found.supplies, found.values) == (len(flows), unlike), "flows and other values"
     assert len(dnorm.differences(ROADS, b"p sp 3 0\n", 2).pairs) == 2, "a limit"
     found_ = told(lambda: dnorm.differences(ROADS, ROADS, -1))
     assert found_ == "ValueError: limit is at least 0, and not -1", "no limit"

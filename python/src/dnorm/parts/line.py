@@ -92,7 +92,7 @@ def parser() -> Parser:
     add("--form", type=matching("[12]", "1 or 2"), default="1")
     add("--lines", type=count, default="1000000")
     add("--parts", type=count)
-    add("--jobs", type=matching("[+-]?[0-9]+%?", "a number"))
+    add("--jobs", type=matching("[+-]?[0-9]+|[0-9]+%", "a number"))
     add("--sshlogin", action="append", default=[])
     add("--sshloginfile", action="append", default=[], type=readable)
     add("--tmpdir", default=os.environ.get("TMPDIR") or "/tmp")
