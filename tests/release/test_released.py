@@ -365,6 +365,8 @@ def test_library(clone: Clone) -> None:
         kept = bytes_of(f"{clone.folder}/{name}")
         clone.write(name, kept + b"\n")
         assert clone.run("tools/c-library") == said("", NO_RT, 125), f"tools/c-library, another {name}"
+        line = "dnorm: no library is released for these sources: tools/c-library proves and builds it\n"
+        assert clone.run("tools/c-library", "--released") == said("", line, 125), f"--released, another {name}"
         assert clone.run("install", prefix).status == 125, f"./install, another {name}"
         clone.write(name, kept)
     flip(f"{clone.released}/x86_64/libdnorm.a.gz")
@@ -372,6 +374,20 @@ def test_library(clone: Clone) -> None:
     line = "dnorm: released/ has other bytes than SHA256SUMS says: git restores it\n"
     assert clone.run("tools/c-library") == said("", line, 125), "tools/c-library, another byte"
     assert clone.run("tools/c-library", "--proved") == said("", NO_RT, 125), "--proved without the kit"
+
+
+def test_left_out(tested: str, folder: str) -> None:
+    """What tests/run says of tests that are left out, and what mends it."""
+    os.mkdir("bin")
+    for it in ["python3", "env", "bash", "cc"]:
+        os.symlink(shutil.which(it) or "", f"bin/{it}")
+    words = [f"{ROOT}/tests/run", tested, "--", f"{ROOT}/tests/program/test_completions.py", "-k"]
+    environment = {**os.environ, "PATH": f"{folder}/bin", "PYTEST_XDIST_AUTO_NUM_WORKERS": "1", "CI": ""}
+    found = run([*words, "test_zsh or test_bash_loads"], env=environment)
+    told = found.out.decode().splitlines()[-3:]
+    zsh = "left out, since zsh is missing: tests/program/test_completions.py::test_zsh"
+    mends = "1 case is left out, which needs tools that are missing: tools/setup installs them, except the kit"
+    assert (told, found.status) == ([zsh, mends, "3 passed, 0 failed"], 0), found
 
 
 def linked_here(clone: Clone) -> str:
