@@ -664,7 +664,8 @@ def test_stages(scratch: Made) -> None:
     os.mkdir(stage)
     found = install(scratch.one.folder, "/usr", below=stage)
     told = sorted(f"/usr/{it}" for it in all_listed())
-    assert (sorted(found.out.decode().splitlines()[:-2]), found.err, found.status) == (told, b"", 0), "DESTDIR"
+    # It has no advice for the shell of whoever makes a package.
+    assert (sorted(found.out.decode().splitlines()), found.err, found.status) == (told, b"", 0), "DESTDIR"
     shutil.copytree(f"{stage}/usr", prefix, symlinks=True)
     assert install(scratch.one.folder, "--uninstall", "/usr", below=stage) == said(), "--uninstall below DESTDIR"
     assert all_below(stage) == {}, "what is left below DESTDIR"
