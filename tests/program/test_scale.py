@@ -302,6 +302,36 @@ def is_running(process: str) -> bool:
         return False
 
 
+# What the `./dnorm` and the tools/program of a clone do, in sh, with what canon-in-parts calls of them, and its status.
+CLONES = {
+    "a program": ("echo own >> log", "echo found >> log; echo $P", "found", 0),
+    "a program that is built first": (
+        "echo own >> log",
+        "echo found >> log; ! grep -q own log || echo $P; grep -q own log",
+        "found own found",
+        0,
+    ),
+    "no program": ("echo own >> log; exit 125", "echo found >> log; exit 125", "found own", 125),
+}
+
+
+@pytest.mark.parametrize("what", CLONES)
+def test_clone(tested: str, folder: str, what: str) -> None:
+    """Which program canon-in-parts of a clone takes."""
+    own, finder, log, status = CLONES[what]
+    for it in ["scale", "tools"]:
+        os.makedirs(f"clone/{it}")
+    os.symlink(f"{ROOT}/python", "clone/python")
+    write("clone/crates.txt", "")
+    shutil.copy(SCRIPT, "clone/scale/canon-in-parts")
+    for path, text in [("clone/dnorm", own), ("clone/tools/program", finder)]:
+        write(path, f"#!/bin/sh\nP={shlex.quote(tested)}\n{text}\n")
+        os.chmod(path, 0o755)
+    found = run(["clone/scale/canon-in-parts", "--lines", "2", "-"], SUPPLIES)
+    assert (found.status, text_of("log").split()) == (status, log.split()), found
+    assert found.out == (run([tested, "canon", "-"], SUPPLIES).out if not status else b"")
+
+
 # What --jobs takes, and how many jobs that is with 8 processors, as GNU parallel has it.
 JOBS = {"1": 1, "3": 3, "0": 1000, "+1": 9, "-1": 7, "-99": 1, "50%": 4, "1%": 1, "300%": 24}
 

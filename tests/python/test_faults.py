@@ -16,7 +16,7 @@ from typing import Any
 
 import pytest
 from known import ROADS, ROADS_CANON
-from shared import LIMIT, bytes_of, run, write
+from shared import LIMIT, ROOT, bytes_of, run, write
 from test_calls import BOTH, CALLS, COMPRESS, PACKAGE, READS, fake, told
 
 import dnorm
@@ -218,7 +218,7 @@ def test_sinks() -> None:
 
 
 NONE = "there is no such program"
-WHERE = "the wheels for Linux on x86-64 and ARM bring it, and docs/FILES.md names other ways"
+WHERE = f"the wheels for Linux on x86-64 and ARM bring it, and {ROOT}/docs/FILES.md names other ways"
 # Where the program is looked for: the argument, $DNORM, PATH, and the error if it is not found.
 PLACES: list[tuple[str | None, str | None, str, str]] = [
     ("bin/dnorm", None, "/none", ""),

@@ -3,16 +3,18 @@ and some calls by each Python on the path."""
 
 import doctest
 import os
+import re
 import shlex
 import shutil
 import sys
 from collections import Counter
 
 import pytest
+from known import ROADS
 from needs import pass_over
 from shared import ROOT, run, said, text_of, write
-from test_calls import READS
-from test_folders import ENVIRONMENT
+from test_calls import PACKAGE, READS
+from test_folders import ENVIRONMENT, module
 
 import dnorm
 
@@ -95,6 +97,45 @@ def test_clone(tested: str, folder: str, what: str) -> None:
         ["clone/dnorm-files", "check", *[f"{ROOT}/examples/{it}" for it in ("roads.gr", "flow.min")]], env=environment
     )
     assert (found.status, dict(Counter(text_of("log").split()))) == (0, wanted), found
+
+
+# What pip makes of a command of the package.
+BY_PIP = "import sys; sys.argv[0] = {!r}; from {} import {} as it; sys.exit(it())"
+
+
+def test_commands(tested: str) -> None:
+    """The commands of wheels, which do what those of `./install` do."""
+    text = text_of(f"{ROOT}/python/pyproject.toml").partition("[project.scripts]\n")[2].partition("\n\n")[0]
+    commands = dict(re.findall(r'^([\w-]+) = "(.*)"$', text, re.M))
+    assert sorted(commands) == ["canon-in-parts", "dnorm-explain", "dnorm-files"]
+    environment = {**os.environ, **ENVIRONMENT, "DNORM": tested}
+    places = {"canon-in-parts": "scale/canon-in-parts"}
+    for name, place in commands.items():
+        code = BY_PIP.format(name, *place.split(":"))
+        for words in ["--help", "--none", f"check {ROOT}/examples/refused/13-NodeOutOfRange.gr", "--lines 2 -"]:
+            own = run([f"{ROOT}/{places.get(name, name)}", *words.split()], ROADS, env=environment)
+            assert run([sys.executable, "-c", code, *words.split()], ROADS, env=environment) == own, f"{name} {words}"
+
+
+def test_page() -> None:
+    """The help names the page that describes the commands, where it is."""
+    assert f"\n{ROOT}/docs/FILES.md describes the commands.\n" in module("--help").out.decode()
+    for package, place in [
+        ("lib/python3/dist-packages/dnorm", "share/doc/dnorm/docs/FILES.md"),
+        ("share/dnorm/python/dnorm", "share/doc/dnorm/docs/FILES.md"),
+        ("site-packages/dnorm", "site-packages/dnorm/FILES.md"),
+        ("nowhere/dnorm", "docs/FILES.md"),
+    ]:
+        os.makedirs(os.path.dirname(f"usr/{package}"))
+        shutil.copytree(f"{PACKAGE}/dnorm", f"usr/{package}", ignore=shutil.ignore_patterns("__pycache__"))
+        wanted = place
+        if place != "docs/FILES.md":
+            os.makedirs(os.path.dirname(f"usr/{place}"), exist_ok=True)
+            write(f"usr/{place}", "")
+            wanted = os.path.abspath(f"usr/{place}")
+        own = {**os.environ, **ENVIRONMENT, "PYTHONPATH": os.path.dirname(os.path.abspath(f"usr/{package}"))}
+        found = run([sys.executable, "-m", "dnorm", "--help"], env=own).out.decode()
+        assert f"\n{wanted} describes the commands.\n" in found, package
 
 
 @pytest.mark.parametrize("name", ["dnorm-files", "dnorm-explain"])

@@ -20,7 +20,7 @@ from ..errors import DnormError, Read, Refused, Write
 from ..files import failing
 from ..limits import LONGEST
 from ..names import ENDINGS
-from ..program import processors, version
+from ..program import page, processors, version
 from .reports import cause_of, line_of
 from .tasks import FAILED, REFUSED, USAGE, Run
 
@@ -63,7 +63,8 @@ class Parser(argparse.ArgumentParser):
 
 def parser() -> Parser:
     """Returns the parser of the command line."""
-    layout: dict[str, Any] = {"formatter_class": argparse.RawDescriptionHelpFormatter, "epilog": STATUSES}
+    epilog = f"{STATUSES}\n{page()} describes the commands.\n"
+    layout: dict[str, Any] = {"formatter_class": argparse.RawDescriptionHelpFormatter, "epilog": epilog}
     top = Parser(prog="dnorm-files", description=ABOUT, allow_abbrev=False, **layout)
     top.add_argument("-V", "--version", action="version", version=f"dnorm for Python {__version__}")
     tasks = top.add_subparsers(dest="task", required=True, metavar="COMMAND")
@@ -284,3 +285,13 @@ def main(words: Sequence[str] | None = None) -> int:
     except Exception:
         console.complain(traceback.format_exc())
         return FAILED
+
+
+def explain() -> int:
+    """Runs dnorm-explain of a wheel."""
+    return main(["explain", *sys.argv[1:]])
+
+
+def canon_in_parts() -> int:
+    """Runs canon-in-parts of a wheel."""
+    return main(["parts", *sys.argv[1:]])
