@@ -6,17 +6,21 @@ All of this happens in scratch repositories with crates of one line, in which th
 What needs the kit and what it has made (by `./check`, or by tools/build and tools/c-library) is left out without
 these."""
 
+import contextlib
 import gzip
 import os
 import re
 import shutil
+import signal
+import subprocess
+import time
 from collections.abc import Callable
 from typing import Any
 
 import pytest
 from known import ROADS, ROADS_CANON
 from needs import leave_out, pass_over
-from shared import ROOT, Answer, bytes_of, own_folder, run, said, text_of, write
+from shared import LIMIT, ROOT, Answer, bytes_of, own_folder, run, said, text_of, write
 
 pytestmark = pytest.mark.whole
 # What a scratch repository has of this one.
@@ -374,6 +378,61 @@ def test_library(clone: Clone) -> None:
     line = "dnorm: released/ has other bytes than SHA256SUMS says: git restores it\n"
     assert clone.run("tools/c-library") == said("", line, 125), "tools/c-library, another byte"
     assert clone.run("tools/c-library", "--proved") == said("", NO_RT, 125), "--proved without the kit"
+
+
+# What ./check calls, each of which stands for itself in a scratch copy: it notes its process, and passes one check. The
+# one that is asked to stay starts others, also in a session of their own and through one that has ended, and waits.
+CALLED = ["tools/lint", "tools/definitions", "bench/figures", "tools/kit.py", "tools/wrong-bodies", "tools/c-library"]
+CALLED += ["tools/build", "tools/released", "tools/third-party", "tests/run", "bin/rt"]
+STANDS = """#!/bin/bash
+echo $$ >> "$LOG"
+cd "$TMPDIR"
+case ${0##*/} in
+    "$STAYS")
+        sleep 1000 &
+        echo $! >> "$LOG"
+        (setsid bash -c 'echo $$ >> "$LOG"; sleep 1000; :' & sleep 1000)  &
+        bash -c 'trap "" TERM; echo $$ >> "$LOG"; [ "$IGNORED" ] || trap - TERM; sleep 1000; :' &
+        while (($(wc -l < "$LOG") < 4 || $(pgrep -P $$ -c) < 3)); do sleep 0.1; done
+        touch "$LOG.ready"
+        wait
+        ;;
+    wrong-bodies) [[ $STAYS == tests/run ]] || cat > /dev/null ;;
+esac
+echo '1 passed, 0 failed'
+"""
+ENDED = [
+    ("lint", signal.SIGTERM, ""),
+    ("rt", signal.SIGINT, ""),
+    ("build", signal.SIGHUP, ""),
+    ("run", signal.SIGTERM, ""),
+]
+
+
+@pytest.mark.parametrize("stays, number, ignored", [*ENDED, ("c-library", signal.SIGTERM, "yes")])
+def test_ended_check(folder: str, heeded: None, stays: str, number: int, ignored: str) -> None:
+    """./check that is ended by a signal, which it alone gets, ends all that it has started, and leaves no file."""
+    shutil.copy(f"{ROOT}/check", "check")
+    os.mkdir("temporary")
+    for it in CALLED:
+        os.makedirs(os.path.dirname(it), exist_ok=True)
+        write(it, STANDS)
+        os.chmod(it, 0o755)
+    os.makedirs("crates/dnorm/out")
+    own = {"PATH": f"{folder}/bin:{os.environ['PATH']}", "STAYS": stays, "LOG": f"{folder}/log", "IGNORED": ignored}
+    own |= {"TMPDIR": f"{folder}/temporary", "RT_JOBS": "1", "CI": ""}
+    process = subprocess.Popen(["./check"], env={**os.environ, **own}, stdout=subprocess.DEVNULL)
+    try:
+        while process.poll() is None and not os.path.exists("log.ready"):
+            time.sleep(0.05)
+        process.send_signal(number)
+        assert process.wait(LIMIT) == -number
+        assert [it for it in text_of("log").split() if os.path.exists(f"/proc/{it}/exe")] == []
+        assert os.listdir("temporary") == []
+    finally:
+        for it in [str(process.pid), *text_of("log").split()]:
+            with contextlib.suppress(ProcessLookupError):
+                os.kill(int(it), signal.SIGKILL)
 
 
 def test_left_out(tested: str, folder: str) -> None:
