@@ -278,7 +278,10 @@ DAMAGES: dict[str, tuple[Callable[[Clone], None], str]] = {
         lambda clone: os.chmod(f"{clone.folder}/{AT}", 0o644),
         "dnorm: {}/released/x86_64/dnorm is not executable: chmod +x makes it so\n",
     ),
-    "no program": (lambda clone: os.remove(f"{clone.folder}/{AT}"), NO_RT),
+    "no program": (
+        lambda clone: os.remove(f"{clone.folder}/{AT}"),
+        NO_RT.replace("has the proved program 1.0", "lacks its program for x86_64: git restores it"),
+    ),
     "no buildinfo": (
         lambda clone: os.remove(f"{clone.released}/buildinfo"),
         NO_RT.replace("; released/ has the proved program 1.0", ""),
@@ -391,13 +394,13 @@ case ${0##*/} in
     "$STAYS")
         sleep 1000 &
         echo $! >> "$LOG"
-        (setsid bash -c 'echo $$ >> "$LOG"; sleep 1000; :' & sleep 1000)  &
-        bash -c 'trap "" TERM; echo $$ >> "$LOG"; [ "$IGNORED" ] || trap - TERM; sleep 1000; :' &
-        while (($(wc -l < "$LOG") < 4 || $(pgrep -P $$ -c) < 3)); do sleep 0.1; done
+        (setsid bash -c 'echo $$ >> "$LOG"; touch "$LOG.one"; sleep 1000; :' & sleep 1000) &
+        bash -c '[ ! "$IGNORED" ] || trap "" TERM; echo $$ >> "$LOG"; touch "$LOG.other"; sleep 1000; :' &
+        until [[ -e $LOG.one && -e $LOG.other ]]; do sleep 0.1; done
         touch "$LOG.ready"
         wait
         ;;
-    wrong-bodies) [[ $STAYS == tests/run ]] || cat > /dev/null ;;
+    wrong-bodies) cat > /dev/null ;;
 esac
 echo '1 passed, 0 failed'
 """
