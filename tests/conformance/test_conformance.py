@@ -286,8 +286,8 @@ def test_by_text(made: Conformance) -> None:
         assert (found.out, found.err.decode(), found.status) == (b"", told, 3), "by-text without dnorm"
 
 
-# What the `./dnorm` and the tools/program of a clone do, in sh, what they then have written into a log, and the status of
-# run.py.
+# What the `./dnorm` and the tools/program of a clone do, in sh, what they then have written into a log, and the status
+# of run.py.
 CLONES = {
     "a program": ('echo own >> log; exec "$P" "$@"', "echo found >> log; echo $P", "found", 0),
     "a program that is built first": (

@@ -28,7 +28,7 @@ from texts import lines_of, made, spelled
 import dnorm
 
 PACKAGE = f"{ROOT}/python/src"
-FORMS: tuple[Literal[1], Literal[2]] = (1, 2)
+FORMS: tuple[Literal[1, 2], ...] = (1, 2)
 # How a test reads instances: the parameters of the fixture `reader`.
 READS = [pytest.mark.whole, pytest.mark.usefixtures("reader")]
 BOTH = pytest.mark.parametrize("reader", ["program", "library"], indirect=True)

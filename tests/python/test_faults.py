@@ -178,11 +178,14 @@ def test_targets() -> None:
 def test_synced(monkeypatch: pytest.MonkeyPatch) -> None:
     """A new file is on the disk before it takes the place of the old one."""
     steps: list[tuple[str, int]] = []
-    sync, replace = os.fsync, os.replace
-    monkeypatch.setattr(os, "fsync", lambda fd: (steps.append(("sync", os.fstat(fd).st_ino)), sync(fd)))
-    monkeypatch.setattr(
-        os, "replace", lambda one, to: (steps.append(("replace", os.stat(one).st_ino)), replace(one, to))
-    )
+    replace = os.replace
+
+    def replaced(one: str, to: str) -> None:
+        steps.append(("replace", os.stat(one).st_ino))
+        replace(one, to)
+
+    monkeypatch.setattr(os, "fsync", lambda fd: steps.append(("sync", os.fstat(fd).st_ino)))
+    monkeypatch.setattr(os, "replace", replaced)
     for name in ["t.gr", "t.gr.gz", "t.gr"]:
         steps.clear()
         dnorm.canon_to(ROADS, name)

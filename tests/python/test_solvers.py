@@ -176,7 +176,8 @@ INFINITE = float("inf")
 def arc(source: int = 1, sink: int = 2, **attributes: object) -> Any:
     """Returns a graph of networkx with an edge of these attributes."""
     graph = networkx.DiGraph(source=source, sink=sink)
-    graph.add_edge(1, 2, **{"capacity": 1, "weight": 1, **attributes})
+    given: dict[str, Any] = {"capacity": 1, "weight": 1, **attributes}
+    graph.add_edge(1, 2, **given)
     return graph
 
 
@@ -254,8 +255,10 @@ def test_options() -> None:
     for words, wanted in rows:
         found: Any = dnorm.from_networkx("sp", graph, **words)
         assert found.lengths.tolist() == wanted, f"lengths by {words}"
+    # Its types take none of these.
+    made_by: Any = dnorm.from_networkx
     for name in ["sp", dnorm.Min]:
-        told_ = told(lambda: dnorm.from_networkx(name, graph, capacity="room", weight=None, source=1))
+        told_ = told(lambda: made_by(name, graph, capacity="room", weight=None, source=1))
         assert told_.endswith(" takes no source"), told_
     found = dnorm.from_networkx(dnorm.Max, graph, capacity="room", source=1, sink=3)
     assert (found.source, found.sink, found.capacities.tolist()) == (1, 3, [7, 8]), "a max graph"

@@ -37,10 +37,9 @@ versions: dict[tuple[str, ...], str] = {}
 WIDTH = 1 << 17
 # Why no program starts after Children.stop.
 STOPPED = "all runs were stopped"
-# Where the page on the commands and calls is, from here: in a wheel, in a clone or an archive, and where `./install` and
-# Debian put it.
-PAGES = ("FILES.md", "../../../docs/FILES.md", "../../../doc/dnorm/docs/FILES.md")
-PAGES += ("../../../../share/doc/dnorm/docs/FILES.md",)
+# Where the page on the commands and calls is, from here: in a wheel, in a clone or an archive, and where `./install`
+# and Debian put it.
+PAGES = ["FILES.md", *(f"../../../{it}/FILES.md" for it in ("docs", "doc/dnorm/docs", "../share/doc/dnorm/docs"))]
 
 
 class Children:

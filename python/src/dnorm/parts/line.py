@@ -121,8 +121,8 @@ class Place:
         self.here, self.root = here, root
 
     def program(self) -> str:
-        """Returns the program: in a clone, the one that `./dnorm` runs, which is built first if there is none; otherwise
-        the program beside the script, where both are installed, or at the top of a release."""
+        """Returns the program: in a clone, the one that `./dnorm` runs, which is built first if there is none;
+        otherwise the program beside the script, where both are installed, or at the top of a release."""
         if os.path.exists(f"{self.root}/crates.txt"):
             return self.found() or self.built()
         beside = f"{self.here}/dnorm"
