@@ -79,10 +79,21 @@ def by_others(graph: dnorm.Sp) -> str:
 
 def rows_of(graph: dnorm.Sp, flow: dnorm.Min, form: Literal[1, 2]) -> int:
     """Returns a sum over the rows of instances, each of which has a type of its own."""
+    # mypy accepts neither for rows of any length.
+    arc: tuple[int, int, int] = next(graph.arcs())
+    row: tuple[int, int, int, int, int] = next(iter(flow))
     total = sum(length for _, _, length in graph) + sum(cap - low for _, _, low, cap, _ in flow.rows())
+    total += 0 * (arc[2] + row[4])
     companion = dnorm.from_arrays("ss", sources=[form])
     forms = dnorm.check(companion).forms
     return total + sum(source for (source,) in companion) + len(dnorm.canon(flow, forms[0]))
+
+
+def wrong(graph: dnorm.Sp) -> None:
+    """Calls that a type checker refuses: mypy complains of a comment below that ignores nothing."""
+    dnorm.canon(graph, 3)  # type: ignore[arg-type]
+    dnorm.from_networkx("sp", graph.to_networkx(), source=1)  # type: ignore[call-overload]
+    dnorm.from_scipy("max", graph.to_scipy())  # type: ignore[call-overload]
 
 
 def main() -> int:

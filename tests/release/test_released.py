@@ -191,6 +191,10 @@ CHANGES = {
     "a new file": ("touch -d @9 $(dirname {})/more", "rm $(dirname {})/more"),
     "a new folder": ("mkdir $(dirname {})/new; touch $(dirname {})/new/more", "rm -r $(dirname {})/new"),
     "another name": ("mv {} {}.old", "mv {}.old {}"),
+    "a new part of a crate": (
+        "mkdir crates/dnorm/specs; touch crates/dnorm/specs/Lib.antt",
+        "rm -r crates/dnorm/specs",
+    ),
 }
 DECIDING = ["dn_low/src/lib.rt", "dn_low/specs/State/Low.antt", "dn_low/proofs/low/Proof.antt", "dnorm/src/main.rt"]
 # A find that takes no list, as that of findutils before 4.9.
