@@ -1,6 +1,7 @@
 """What a clone does with released/: ./dnorm, tools/program, tools/c-library and ./install take the released files if
 they were made from the sources that are there, and say in one line what to do if a file was changed, a source was, or
-the kit is another one; tools/released finds every released file that is not what is made here.
+the kit is another one; tools/released finds every released file that is not what is made here. Further, ./check ends
+what it has started, and tests/run says what it leaves out.
 
 All of this happens in scratch repositories with crates of one line, in which the tested program is the released one.
 What needs the kit and what it has made (by `./check`, or by tools/build and tools/c-library) is left out without
@@ -43,7 +44,7 @@ INSTALLED = ["755 dnorm bin/dnorm", "644 include/dnorm.h include/dnorm.h", "644 
 # A path of commands without `rt`.
 WITHOUT_RT = "/usr/bin:/bin"
 # The commands that ./dnorm calls to find the released program.
-USED = "bash cut date dirname env find head mkdir readlink sed sha256sum sort touch xargs"
+USED = "bash cut date dirname env find head mkdir mv readlink rm sed sha256sum sort touch xargs"
 KIT = text_of(f"{ROOT}/kit.txt").strip()
 NO_RT = f"dnorm: proving needs the kit '{KIT}', and there is no rt on the PATH: see docs/PROVED.md; released/ has the "
 NO_RT += "proved program 1.0\n"
@@ -356,6 +357,13 @@ def test_without_python(clone: Clone) -> None:
         clone.link(f"bin/{name}", shutil.which(name, path=WITHOUT_RT) or "")
     path = f"{clone.folder}/bin"
     runs("without python3", clone, path)
+    # A call after one that has checked all runs little else than the program.
+    for name in {*USED.split()} - {"bash", "env", "find"}:
+        os.remove(f"{path}/{name}")
+    runs("by bash and find alone", clone, path)
+    for name in USED.split():
+        if not os.path.lexists(f"{path}/{name}"):
+            clone.link(f"bin/{name}", shutil.which(name, path=WITHOUT_RT) or "")
     clone.write("crates/dnorm/src/main.rt", "// another\n")
     line = "dnorm: no program is released for these sources; a proof needs python3 and the kit "
     stops("another source without python3", clone, f"{line}'{KIT}': see docs/PROVED.md\n", path)

@@ -107,7 +107,7 @@ def frozen(name: str, given: Any) -> Any:
 
 def is_array(np: Any, given: Any) -> bool:
     """Whether this is an array of numpy of one dimension in which no numbers are masked."""
-    is_plain = np is not None and isinstance(given, np.ndarray) and not isinstance(given, np.ma.MaskedArray)
+    is_plain = np is not None and isinstance(given, np.ndarray) and not hasattr(given, "mask")
     return is_plain and given.ndim == 1
 
 

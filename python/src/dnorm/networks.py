@@ -93,11 +93,11 @@ def from_networkx(
     values.update(tails=[tail for tail, _, _ in edges], heads=[head for _, head, _ in edges])
     if made is Sp:
         return from_arrays(Sp, lengths=weights_of(edges, weight, 1), **values)
-    capacities = of_edges("capacity", edges, attributes_of(edges, capacity))
+    capacities = of_edges(capacity, edges, attributes_of(edges, capacity))
     if made is Max:
         return from_arrays(Max, capacities=capacities, **terminals_of(graph, ends), **values)
-    lows = of_edges("low", edges, [data.get(low, 0) for _, _, data in edges])
-    caps = of_edges("low with the capacity", edges, [it + more for it, more in zip(lows, capacities)])
+    lows = of_edges(low, edges, [data.get(low, 0) for _, _, data in edges])
+    caps = of_edges(f"{low} with the {capacity}", edges, [it + more for it, more in zip(lows, capacities)])
     values.update(supplies=supplies_of(graph, lows, demand), costs=weights_of(edges, weight, 0))
     return from_arrays(Min, lows=lows, caps=caps, **values)
 
@@ -123,7 +123,7 @@ Edges = list[tuple[Any, Any, dict[str, Any]]]
 
 
 def of_edges(what: str, edges: Edges, numbers: list[Any]) -> array[int]:
-    """Returns what edges have, a number each. Errors name the edge."""
+    """Returns what edges have, a number each. Errors name the edge, and call its number by this name."""
 
     def name_at(place: int) -> str:
         tail, head, _ = edges[place]
@@ -139,7 +139,7 @@ def weights_of(edges: Edges, weight: Weight, default: int) -> array[int]:
     if callable(weight):
         return of_edges("weight", edges, [weight(*it) for it in edges])
     hint = f": weight=None gives each edge {default}, and weight=NAME takes another attribute"
-    return of_edges("weight", edges, attributes_of(edges, weight, hint))
+    return of_edges(weight, edges, attributes_of(edges, weight, hint))
 
 
 def attributes_of(edges: Edges, name: str, hint: str = "") -> list[Any]:
