@@ -8,10 +8,9 @@
 
 root=${BASH_SOURCE[0]%/tools/find-program.sh}
 out=$root/crates/dnorm/out
-# The marks, each as old as the check that found a program to be made from the sources. A mark lists the files and the
-# folders that this check rests on, by their paths from the top of the clone, each ended by NUL.
+# The mark of the built program, which is as old as the sources that it was made from. A mark lists the files and the
+# folders that decide, by their paths from the top of the clone, each ended by NUL.
 built=$out/built
-found=$out/released/mark
 
 stop() { # LINE
     echo "dnorm: $1" >&2
@@ -44,6 +43,8 @@ find_built() {
 find_released() {
     # What bash was built for, which no variable of the environment changes.
     local machine=${BASH_VERSINFO[5]%%-*}
+    # A mark as old as the check that found the program to be made from the sources.
+    found=$out/released/mark-$machine
     program=$root/released/$machine/dnorm packed=''
     if [[ -e $program.gz ]]; then
         packed=$program.gz program=$out/released/dnorm-$machine

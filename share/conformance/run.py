@@ -33,7 +33,8 @@ Standard input is a file, a pipe, or a pipe in pieces, by the id of the case: --
 these.
 
 Further lines are ignored where 'check' prints them: on standard output after the expected ones, and on standard error
-before the refusal.
+before the refusal. In place of the './dnorm' of a clone, the program that it runs is called. On a terminal, standard
+error shows the progress.
 
 The status is 0 if all cases pass, 1 if one fails, and 3 if the command line is refused, or if COMMAND ends with status
 125, which says that it cannot work. A call that takes more

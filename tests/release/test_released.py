@@ -318,17 +318,21 @@ def test_packed(clone: Clone, tested: str) -> None:
     runs("what was unpacked may not run", clone)
     flip(f"{clone.folder}/{OUT}/released/dnorm-x86_64")
     runs("what was unpacked has changed", clone)
-    mark = os.stat(f"{clone.folder}/{OUT}/released/mark").st_mtime_ns
+    mark = os.stat(f"{clone.folder}/{OUT}/released/mark-x86_64").st_mtime_ns
     runs("a packed program, once more", clone)
-    same = os.stat(f"{clone.folder}/{OUT}/released/mark").st_mtime_ns == mark
+    same = os.stat(f"{clone.folder}/{OUT}/released/mark-x86_64").st_mtime_ns == mark
     assert same, "it is not unpacked again"
+    clone.write("crates/dnorm/src/main.rt", "// another\n")
+    stops("another source of a packed program", clone, NO_RT)
+    clone.write("crates/dnorm/src/main.rt", "// a source\n")
+    runs("its source as it was", clone)
     kept = bytes_of(f"{clone.folder}/{name}")
     clone.write(name, bytes([*kept[:5000], kept[5000] ^ 1, *kept[5001:]]))
     line = f"dnorm: {clone.folder}/{name} could not be unpacked to {clone.folder}/{OUT}/released/dnorm-x86_64\n"
     for changed in [bytes([*kept[:5000], kept[5000] ^ 1, *kept[5001:]]), kept[:-9]]:
         clone.write(name, changed)
         stops(f"{len(changed)} other bytes of a packed program", clone, line)
-    assert sorted(os.listdir(f"{clone.folder}/{OUT}/released")) == ["dnorm-x86_64", "mark"], "what is left of it"
+    assert sorted(os.listdir(f"{clone.folder}/{OUT}/released")) == ["dnorm-x86_64", "mark-x86_64"], "what is left of it"
 
 
 def test_kits(clone: Clone) -> None:
