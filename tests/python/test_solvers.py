@@ -261,12 +261,13 @@ def test_options() -> None:
         told_ = told(lambda: made_by(name, graph, capacity="room", weight=None, source=1))
         assert told_.endswith(" takes no source"), told_
     networkx.set_edge_attributes(graph, {(2, 3): {"room": 8, "length": 6, "half": 0.5}})
-    for words, begin in [
+    wrong_words: list[tuple[dict[str, Any], str]] = [
         ({"weight": "half"}, "ValueError: the edge from 1 to 2 has no half"),
         ({"low": "half"}, "TypeError: the half of the edge from 2 to 3 is 0.5: "),
         ({"demand": "half"}, "ValueError: the edge from 1 to 2 has no weight"),
         ({"weight": lambda tail, head, data: tail / 2}, "TypeError: the weight of the edge from 1 to 2 is 0.5: "),
-    ]:
+    ]
+    for words, begin in wrong_words:
         told_ = told(lambda: made_by("min", graph, **{"capacity": "room", **words}))
         assert told_.startswith(begin), f"{words}: {told_}"
     found = dnorm.from_networkx(dnorm.Max, graph, capacity="room", source=1, sink=3)
