@@ -400,7 +400,7 @@ def test_library(clone: Clone) -> None:
 
 
 # What ./check calls, each of which stands for itself in a scratch copy: it notes its process, and passes one check. The
-# one that is asked to stay starts others, also in a session of their own and through one that has ended, and waits.
+# one that is asked to stay starts others, also detached ones and through one that has ended, and waits.
 CALLED = ["tools/lint", "tools/definitions", "bench/figures", "tools/kit.py", "tools/wrong-bodies", "tools/c-library"]
 CALLED += ["tools/build", "tools/released", "tools/third-party", "tests/run", "bin/rt"]
 STANDS = """#!/bin/bash
