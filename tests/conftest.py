@@ -1,6 +1,7 @@
 """The options of the tests, and what all of them share: the program under test, folders, and what runs beside what."""
 
 import fcntl
+import importlib.util
 import os
 import signal
 import sys
@@ -101,6 +102,8 @@ def reader(
     how: str = getattr(request, "param", "program")
     if how == "library" and not os.path.exists(LIBRARY):
         leave_out("the library (tools/c-library builds it)")
+    if how == "numpy" and not importlib.util.find_spec("numpy"):
+        leave_out("numpy")
     if how != "numpy":
         monkeypatch.setitem(vars(sys)["modules"], "numpy", None)
     kept = dict(os.environ)

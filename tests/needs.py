@@ -30,12 +30,12 @@ def leave_out(tool: str) -> NoReturn:
     """Skips the test, since this tool is missing. If CI=true is set, the test fails."""
     if os.environ.get("CI") == "true":
         pytest.fail(f"left out, since {tool} is missing")
-    pass_over(tool)
+    pytest.skip(f"{tool} is missing", allow_module_level=True)
 
 
 def pass_over(needs: str) -> NoReturn:
-    """Skips the test because this machine does not allow it. `needs` is what it lacks."""
-    pytest.skip(f"{needs} is missing", allow_module_level=True)
+    """Skips the test because this machine or the program under test does not allow it. `needs` is what it lacks."""
+    pytest.skip(f"{needs} is not here", allow_module_level=True)
 
 
 def need(*tools: str) -> None:

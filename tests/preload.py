@@ -53,11 +53,11 @@ def preloaded(folder: str, tested: str, source: str) -> Preloaded:
     a C compiler, and for a static program that starts none that loads the library."""
     library = Preloaded(folder)
     if not shutil.which("cc") and is_static(tested):
-        pass_over("a program that loads libraries")
+        pass_over("a program under test that loads libraries, as no static one does,")
     need("cc")
     write(f"{folder}/first.c", f'#define TOLD "{library.told}"\n{TELLING}{source}')
     made = run(["cc", "-shared", "-fPIC", "-o", library.path, f"{folder}/first.c"])
     assert made == said(), "cc"
     if is_static(tested) and not library.lines([tested, "--version"])[1]:
-        pass_over("a program that loads libraries")
+        pass_over("a program under test that loads libraries, as no static one does,")
     return library

@@ -5,6 +5,7 @@
 
 prints its folder. If there is none, the script says why in one line, and what can be done; the status is 125."""
 
+import platform
 import re
 import shutil
 import subprocess
@@ -49,11 +50,17 @@ def lack() -> str:
 
 def instead() -> str:
     """Returns what can be used without a kit."""
+    machine = platform.machine()
+    place = ROOT / "released" / machine
     try:
         found = re.match(r"version: (\S+)", (ROOT / "released" / "buildinfo").read_text("utf-8"))
     except OSError:
         found = None
-    return f"; released/ has the proved program {found[1]}" if found else ""
+    if not found or not place.exists():
+        return ""
+    if not any((place / it).exists() for it in ("dnorm", "dnorm.gz")):
+        return f"; released/ lacks its program for {machine}: git restores it"
+    return f"; released/ has the proved program {found[1]}"
 
 
 def folder() -> Path:

@@ -33,7 +33,8 @@ Standard input is a file, a pipe, or a pipe in pieces, by the id of the case: --
 these.
 
 Further lines are ignored where 'check' prints them: on standard output after the expected ones, and on standard error
-before the refusal.
+before the refusal. In place of the './dnorm' of a clone, the program that it runs is called. On a terminal, standard
+error shows the progress.
 
 The status is 0 if all cases pass, 1 if one fails, and 3 if the command line is refused, or if COMMAND ends with status
 125, which says that it cannot work. A call that takes more
@@ -49,6 +50,7 @@ import os
 import re
 import select
 import selectors
+import shutil
 import signal
 import struct
 import subprocess
@@ -78,6 +80,8 @@ CLOCK = 6
 PIECES, MANY, PAUSE = [1, 7, 4096], 200, 0.0002
 # The seconds by the clock for which the time of an answer in a batch is not measured.
 AT_ONCE = 0.05
+# The seconds between two drawings of the progress.
+DRAWING = 0.1
 
 # The words after `p` of each kind.
 KINDS = {"min": "min", "max": "max", "sp": "sp", "ss": "aux sp ss", "p2p": "aux sp p2p", "co": "aux sp co"}
@@ -231,13 +235,30 @@ class Feed:
                 os.close(it)
 
 
+def run_by(command: list[str]) -> list[str]:
+    """Returns a command, with the program in the place of a `./dnorm` that looks for its program at each call, as that
+    of a clone of dnorm does."""
+    path = os.path.realpath(shutil.which(command[0]) or "") if command else ""
+    finder = os.path.join(os.path.dirname(path), "tools", "program")
+    if os.path.basename(path) != "dnorm" or not os.access(finder, os.X_OK):
+        return command
+    found = subprocess.run([finder], capture_output=True, check=False)
+    if found.returncode:
+        # This call proves and builds the program, and prints the progress, or why there is none.
+        subprocess.run([path, "--version"], stdout=subprocess.DEVNULL, check=False)
+        found = subprocess.run([finder], capture_output=True, check=False)
+    if found.returncode:
+        raise Unusable(f"{command[0]} cannot work")
+    return [os.fsdecode(found.stdout.removesuffix(b"\n")), *command[1:]]
+
+
 class Runner:
     """The reader that is tested."""
 
     def __init__(self, asked: argparse.Namespace) -> None:
-        self.command, self.limit, self.level = asked.command, asked.limit, LEVELS.index(asked.level)
+        self.command, self.limit, self.level = run_by(asked.command), asked.limit, LEVELS.index(asked.level)
         if asked.memory:
-            self.command = ["sh", "-c", 'ulimit -v "$0" && exec "$@"', str(1024 * asked.memory), *asked.command]
+            self.command = ["sh", "-c", 'ulimit -v "$0" && exec "$@"', str(1024 * asked.memory), *self.command]
         self.refused = asked.refused
         self.refusal = f"status {asked.refused}" if asked.refused else "a status other than 0"
         # The size of pieces: of the whole text, or given; or none, where standard input is a file.
@@ -669,6 +690,22 @@ def run_all(runner: Runner, chosen: list[Case], asked: argparse.Namespace) -> It
             yield Result(case, failures, case["id"] in asked.expected)
 
 
+def with_progress(results: Iterator[Result], total: int) -> Iterator[Result]:
+    """Yields results, and shows on a terminal how many of them there are."""
+    if sys.stderr is None or not sys.stderr.isatty():
+        yield from results
+        return
+    drawn = 0.0
+    try:
+        for count, it in enumerate(results, 1):
+            if drawn + DRAWING <= time.monotonic():
+                drawn = time.monotonic()
+                print(f"\r{count} of {total} cases", end="", flush=True, file=sys.stderr)
+            yield it
+    finally:
+        print("\r\x1b[K", end="", flush=True, file=sys.stderr)
+
+
 def by_rule(rules: list[Case], found: list[Result], is_all: bool) -> Iterator[str]:
     """Yields the lines on the failures of all rules, first of those with the greatest share of failures: a mistake
     fails most cases of its own rule."""
@@ -715,7 +752,7 @@ def tried(rules: list[Case], asked: argparse.Namespace) -> int:
         if asked.write:
             write(chosen, asked.write)
             return 0
-        for it in run_all(runner, chosen, asked):
+        for it in with_progress(run_all(runner, chosen, asked), len(chosen)):
             found.append(it)
     except Stuck:
         stuck = (

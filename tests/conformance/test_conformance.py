@@ -2,6 +2,7 @@
 mutants.py that changes an answer; docs/FORMAT.md names the cases of each rule, and sentences.txt those of each
 sentence; what each level of run.py compares, and what it does with readers that fail."""
 
+import contextlib
 import importlib
 import json
 import os
@@ -11,6 +12,7 @@ import shlex
 import shutil
 import signal
 import stat
+import subprocess
 import sys
 import time
 from typing import NoReturn
@@ -19,7 +21,7 @@ from xml.etree import ElementTree
 import mutants
 import pytest
 import sentences
-from needs import leave_out
+from needs import leave_out, terminal
 from shared import LIMIT, ROOT, Answer, bytes_of, listed, run, said, text_of, write
 from suite import FOLDER, answer, cases, released, rules, texts, told
 
@@ -38,6 +40,7 @@ RANGE = re.compile(r"`refusal-(\d+)` to `refusal-(\d+)`")
 READERS = [
     ("refuses without a line", '[ "$1" = check ] && exec "$P" "$@" 2> /dev/null', "accept"),
     ("names no refusal", 't=$("$P" "$@" 2>&1) && echo "$t" || { echo "${t%% *} fault" >&2; exit 2; }', "line"),
+    ("fails after a canonical text", '"$P" "$@" || exit; [ "$1" != canon ] || exit 1', "refusal"),
     ("has no canonical texts", '[ "$1" = check ] && exec "$P" "$@"', "refusal"),
     ("does not compare", 'case "$*" in compare* | *--with*) ;; *) exec "$P" "$@" ;; esac', "canon"),
     ("warns before a refusal", 'echo "reading" >&2; exec "$P" "$@"', "compare"),
@@ -268,6 +271,50 @@ def test_by_text(made: Conformance) -> None:
     told = f"run.py: {adapter} cannot work: by-text: dnorm is not on PATH\n"
     if not shutil.which("dnorm", path="/usr/bin:/bin"):
         assert (found.out, found.err.decode(), found.status) == (b"", told, 3), "by-text without dnorm"
+
+
+# What the `./dnorm` and the tools/program of a clone do, in sh, what they then have written into a log, and the status
+# of run.py.
+CLONES = {
+    "a program": ('echo own >> log; exec "$P" "$@"', "echo found >> log; echo $P", "found", 0),
+    "a program that is built first": (
+        "echo own >> log",
+        "echo found >> log; cat log | grep own > o && echo $P",
+        "found own found",
+        0,
+    ),
+    "no program": ("echo own >> log; exit 125", "echo found >> log; exit 125", "found own found", 3),
+}
+
+
+@pytest.mark.parametrize("what", CLONES)
+def test_clone(made: Conformance, what: str) -> None:
+    """Which program the `./dnorm` of a clone runs is asked once, and not by each call."""
+    own, finder, log, status = CLONES[what]
+    os.makedirs("clone/tools")
+    for path, script in [("clone/dnorm", own), ("clone/tools/program", finder)]:
+        os.rename(made.reader(f"cd {made.folder}; {script}"), path)
+    found = made.run("--level", "compare", "--rule", "form", "--rule", "fit", "clone/dnorm")
+    assert (found.status, text_of("log").split()) == (status, log.split()), found
+    assert (found.err == b"") == (status == 0), found
+
+
+def test_progress(made: Conformance) -> None:
+    """How many cases are done, on a terminal alone."""
+    upper, lower = terminal()
+    words = [sys.executable, RUN, "--rule", "form", made.reader('sleep 0.1; exec "$P" "$@"')]
+    with subprocess.Popen(words, stdout=subprocess.PIPE, stderr=lower) as process:
+        os.close(lower)
+        out, drawn = process.communicate(timeout=LIMIT)[0], b""
+    with contextlib.suppress(OSError):
+        while piece := os.read(upper, 4096):
+            drawn += piece
+    os.close(upper)
+    count = len(ids_of("form"))
+    assert out == f"{count} cases pass, 0 fail (level canon)\n".encode()
+    *counts, end = re.split(rb" of %d cases|\r\x1b" % count, drawn)
+    numbers = [int(it.removeprefix(b"\r")) for it in counts if it]
+    assert (end, numbers) == (b"[K", sorted(numbers)) and len(numbers) > 1, drawn
 
 
 @pytest.mark.parametrize("what, script, part", FAILING)

@@ -1,15 +1,18 @@
 """The completions: bash, zsh and fish complete commands, options, forms and files, each with the file where `./install`
 installs it."""
 
+import argparse
 import os
 import re
 import shlex
-from collections.abc import Callable
+from collections.abc import Callable, Iterator
 
 import pytest
 from needs import leave_out, need, need_proc, terminal
 from shared import Answer, run, said, write
 from test_share import COMPLETIONS, FILES, PARTS, SHARE
+
+from dnorm.commands.line import TASKS, parser
 
 # Command lines, and the completions of the last word of each, in a folder with the files check, g.gr and s.ss.
 COMPLETED = [
@@ -51,9 +54,26 @@ COMPLETED = [
     ("canon-in-parts --form 2 ", "check g.gr s.ss"),
     ("canon-in-parts --sshloginfile s", "s.ss"),
     ("canon-in-parts --tmpdir ", ""),
-    ("canon-in-parts --lines ", ""),
+    *((f"canon-in-parts --{it} ", "") for it in ("lines", "parts", "jobs", "sshlogin")),
+    ("canon-in-parts --program ", "check g.gr s.ss"),
     ("canon-in-parts --lines 5 g", "g.gr"),
 ]
+FILES_HERE = "check g.gr s.ss"
+
+
+def values() -> Iterator[tuple[str, str]]:
+    """Yields a line for each option of dnorm-files, which ends in the option and a blank, with its completions: a file
+    follows an option without a value or with that of a file, and nothing that is known another value."""
+    (tasks,) = (it for it in parser()._actions if isinstance(it, argparse._SubParsersAction))
+    for task, one in tasks.choices.items():
+        for it in one._actions if task in TASKS else ():
+            name = it.option_strings[-1] if it.option_strings else ""
+            if name and name != "--help":
+                kinds = {"FILE": FILES_HERE, "PROGRAM": FILES_HERE, None: FILES_HERE if it.nargs == 0 else ""}
+                known = " ".join(map(str, it.choices)) if it.choices else kinds.get(it.metavar, "")
+                yield f"dnorm-files {task} {name} ", known
+
+
 # Completes the last of the words after the name of a file, as bash does.
 IN_BASH = (
     'source "$1"; shift; COMP_WORDS=("$@") COMP_CWORD=$(($# - 1)); "_${1//-/_}"; ' 'printf "%s\\n" "${COMPREPLY[@]}"'
@@ -99,12 +119,15 @@ for line; do
     : > $FOUND
     zpty -w -n shell $'\\x15'$line$'\\t'
     until_end
+    # A terminal that nobody reads holds little.
+    while zpty -r -t shell; do :; done > /dev/null
     cat $FOUND
 done
 zpty -d shell
 """
 
 
+COMPLETED += values()
 LINES = pytest.mark.parametrize("line, wanted", COMPLETED, ids=[line for line, _ in COMPLETED])
 # What runs a shell with these words.
 Shell = Callable[..., Answer]

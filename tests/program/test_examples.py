@@ -61,8 +61,8 @@ class Block:
 
 
 def sections_of(page: str) -> list[tuple[str, str]]:
-    """Returns the sections of a page, by its headings of the second and third level."""
-    parts = re.split(r"^###? ", page, flags=re.M)[1:]
+    """Returns the sections of a page, by its headings of the second and third level, after what precedes them."""
+    parts = re.split(r"^###? ", page, flags=re.M)
     return [(head, text) for head, _, text in (it.partition("\n") for it in parts)]
 
 
@@ -224,6 +224,28 @@ def test_recipe(
         ran = examples.by_shell("bash", commands.replace(name, "given"), cwd=place)
         left = [it for it in os.listdir(place) if it.startswith("given") and os.path.getsize(f"{place}/{it}")]
         assert (ran.status, left) == (status, ["given"] if given else []), f"{given!r}: {ran.out!r}"
+
+
+@pytest.mark.whole
+def test_installed_readme(tested: str, folder: str) -> None:
+    """README.md as ./install installs it: its commands run where it lies, by what is installed, and its links lead to
+    what is there."""
+    prefix = f"{folder}/a prefix"
+    found = run([f"{ROOT}/install", prefix], limit=5 * LIMIT)
+    if found.status == 125:
+        leave_out("the kit")
+    assert (found.err, found.status) == (b"", 0), "./install"
+    shutil.copy(tested, f"{prefix}/bin/dnorm")
+    pages = f"{prefix}/share/doc/dnorm"
+    assert run([sys.executable, f"{ROOT}/tools/pages.py", pages]) == said(), "links"
+    own = {it: value for it, value in os.environ.items() if it not in ("DNORM", "PYTHONPATH")}
+    own["PATH"] = f"{prefix}/bin:{own['PATH']}"
+    assert " 451 lines of plain Rust write " in text_of(f"{pages}/{README}"), "a link to what is not installed"
+    blocks = [*blocks_of(text_of(f"{pages}/{README}"))]
+    assert len(blocks) == len([*blocks_of(text_of(f"{ROOT}/{README}"))]) > 6
+    for it in blocks:
+        ran = run(["bash", "-c", f"exec 2>&1\n{it.text}"], cwd=pages, env=own, limit=5 * LIMIT)
+        assert ran.out.decode() == it.output, it.text
 
 
 def test_refusal_sections() -> None:

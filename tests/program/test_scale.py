@@ -20,6 +20,8 @@ from reading import MOST
 from shared import LIMIT, ROOT, Answer, pipe, run, said, text_of, write
 from texts import lines_of, made, spelled, spoilt
 
+from dnorm.parts.line import jobs_at_once
+
 pytestmark = pytest.mark.whole
 SCRIPT = f"{ROOT}/scale/canon-in-parts"
 HALF = MOST // 2 + 1
@@ -300,9 +302,63 @@ def is_running(process: str) -> bool:
         return False
 
 
-@pytest.mark.parametrize("jobs", ["1", "0", "+1", "-1", "-99", "50%", "300%"])
-def test_jobs(scale: Scale, jobs: str) -> None:
+# What the `./dnorm` and the tools/program of a clone do, in sh, with what canon-in-parts calls of them, and its status.
+CLONES = {
+    "a program": ("echo own >> log", "echo found >> log; echo $P", "found", 0),
+    "a program that is built first": (
+        "echo own >> log",
+        "echo found >> log; ! grep -q own log || echo $P; grep -q own log",
+        "found own found",
+        0,
+    ),
+    "no program": ("echo own >> log; exit 125", "echo found >> log; exit 125", "found own", 125),
+}
+
+
+@pytest.mark.parametrize("what", CLONES)
+def test_clone(tested: str, folder: str, what: str) -> None:
+    """Which program canon-in-parts of a clone takes."""
+    own, finder, log, status = CLONES[what]
+    for it in ["scale", "tools"]:
+        os.makedirs(f"clone/{it}")
+    os.symlink(f"{ROOT}/python", "clone/python")
+    write("clone/crates.txt", "")
+    shutil.copy(SCRIPT, "clone/scale/canon-in-parts")
+    for path, text in [("clone/dnorm", own), ("clone/tools/program", finder)]:
+        write(path, f"#!/bin/sh\nP={shlex.quote(tested)}\n{text}\n")
+        os.chmod(path, 0o755)
+    found = run(["clone/scale/canon-in-parts", "--lines", "2", "-"], SUPPLIES)
+    assert (found.status, text_of("log").split()) == (status, log.split()), found
+    assert found.out == (run([tested, "canon", "-"], SUPPLIES).out if not status else b"")
+
+
+# What --jobs takes, and how many jobs that is with 8 processors, as GNU parallel has it.
+JOBS = {"1": 1, "3": 3, "0": 1000, "+1": 9, "-1": 7, "-99": 1, "50%": 4, "1%": 1, "300%": 24}
+
+
+@pytest.mark.parametrize("jobs", JOBS)
+def test_jobs(scale: Scale, monkeypatch: pytest.MonkeyPatch, jobs: str) -> None:
     assert scale.run("--lines=2", f"--jobs={jobs}", "-", given=SUPPLIES) == run([scale.program, "canon", "-"], SUPPLIES)
+    monkeypatch.setattr("dnorm.parts.line.processors", lambda: 8)
+    assert (jobs_at_once(jobs), jobs_at_once(None)) == (JOBS[jobs], 8)
+
+
+@pytest.mark.parametrize("count", [1, 3])
+def test_jobs_at_once(scale: Scale, count: int) -> None:
+    """As many jobs run at once as were asked for."""
+    write("log", "")
+    own = scale.stand_in("echo + >> log; sleep 0.3; echo - >> log")
+    scale.run("--lines=1", f"--jobs={count}", "-", given=SUPPLIES, tested=own)
+    steps = [1 if it == "+" else -1 for it in text_of("log").split()]
+    assert max(sum(steps[:at]) for at in range(len(steps) + 1)) == count
+
+
+@pytest.mark.parametrize(
+    "words", ["--jobs nan", "--jobs 1.5", "--jobs +50%", "--lines inf", "--parts -1", "--form nan"]
+)
+def test_no_numbers(scale: Scale, words: str) -> None:
+    found = scale.run(*words.split(), "-", given=SUPPLIES)
+    assert (found.out, found.status, len(found.err.splitlines())) == (b"", 3, 1)
 
 
 def test_without_parallel(scale: Scale) -> None:

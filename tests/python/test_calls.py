@@ -16,6 +16,7 @@ import signal
 from collections.abc import Callable
 from concurrent.futures import ThreadPoolExecutor
 from pathlib import Path
+from typing import Literal
 
 import pytest
 from known import COSTS, ROADS, ROADS_CANON, rows
@@ -27,6 +28,7 @@ from texts import lines_of, made, spelled
 import dnorm
 
 PACKAGE = f"{ROOT}/python/src"
+FORMS: tuple[Literal[1, 2], ...] = (1, 2)
 # How a test reads instances: the parameters of the fixture `reader`.
 READS = [pytest.mark.whole, pytest.mark.usefixtures("reader")]
 BOTH = pytest.mark.parametrize("reader", ["program", "library"], indirect=True)
@@ -60,7 +62,7 @@ def told(call: Callable[[], object]) -> str:
     that the call raises."""
     try:
         answer = call()
-    except (dnorm.DnormError, TypeError, ValueError, MemoryError) as error:
+    except (dnorm.DnormError, TypeError, ValueError, OverflowError, MemoryError) as error:
         return f"{type(error).__name__}: {error}"
     if isinstance(answer, dnorm.Shown):
         return shown_lines(answer)
@@ -80,7 +82,7 @@ def called(words: str, file: Callable[[str], dnorm.File]) -> object:
             names.append(word)
     command, *files = names[0], *map(file, names[1:])
     if command == "canon":
-        return dnorm.canon(files[0], int(options["--form"]))
+        return dnorm.canon(files[0], FORMS[int(options["--form"]) - 1])
     if command == "compare":
         return dnorm.compare(files[0], files[1])
     if command == "show":
@@ -428,7 +430,7 @@ def test_columns() -> None:
     texts += [large, Text("co", items=[(it, -it, it) for it in range(1, 30_000)])]
     for text in texts:
         given = spelled(chance, lines_of(chance, text))
-        for form in [1, 2]:
+        for form in FORMS:
             found = dnorm.read(given, form)
             assert rebuilt(found) == canonical(text, form), f"read {given!r}, {form}"
             kinds = {type(getattr(found, it)).__name__ for it in COLUMNS[text.kind].split()}

@@ -17,7 +17,7 @@ from typing import Any
 import pytest
 from known import ROADS, ROADS_CANON
 from needs import need
-from shared import LIMIT, bytes_of, run, write
+from shared import LIMIT, ROOT, bytes_of, run, write
 from test_calls import BOTH, CALLS, COMPRESS, PACKAGE, READS, fake, told
 
 import dnorm
@@ -199,7 +199,25 @@ def test_targets() -> None:
         assert cat.communicate()[0] == ROADS_CANON, "a pipe"
 
 
-FORMED: list[Callable[[dnorm.File, int], object]] = [dnorm.canon, dnorm.checksum, dnorm.read]
+def test_synced(monkeypatch: pytest.MonkeyPatch) -> None:
+    """A new file is on the disk before it takes the place of the old one."""
+    steps: list[tuple[str, int]] = []
+    replace = os.replace
+
+    def replaced(one: str, to: str) -> None:
+        steps.append(("replace", os.stat(one).st_ino))
+        replace(one, to)
+
+    monkeypatch.setattr(os, "fsync", lambda fd: steps.append(("sync", os.fstat(fd).st_ino)))
+    monkeypatch.setattr(os, "replace", replaced)
+    for name in ["t.gr", "t.gr.gz", "t.gr"]:
+        steps.clear()
+        dnorm.canon_to(ROADS, name)
+        inode = os.stat(name).st_ino
+        assert steps == [("sync", inode), ("replace", inode)], name
+
+
+FORMED: list[Callable[[dnorm.File, Any], object]] = [dnorm.canon, dnorm.checksum, dnorm.read]
 
 
 def test_sinks() -> None:
@@ -227,7 +245,7 @@ def test_sinks() -> None:
 
 
 NONE = "there is no such program"
-WHERE = "the wheels for Linux on x86-64 and ARM bring it, and docs/FILES.md names other ways"
+WHERE = f"the wheels for Linux on x86-64 and ARM bring it, and {ROOT}/docs/FILES.md names other ways"
 # Where the program is looked for: the argument, $DNORM, PATH, and the error if it is not found.
 # Lists of folders that name only the current one, and one in it.
 AT = ["bin", ".:bin", "", ":", "./bin:", "/none::"]

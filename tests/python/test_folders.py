@@ -132,9 +132,12 @@ COMMANDS = ["check", "manifest", "same", "list", "compare"]
 # Numbers of Linux.
 PR_CAPBSET_DROP, CAP_DAC_OVERRIDE, CAP_DAC_READ_SEARCH = 24, 1, 2
 # Arguments that are refused.
+NO_SECONDS = ["inf", "nan", "-1", "-inf", "1e400", "1000000001", "x", "''"]
 WRONG = [
     *["", "x", "check", "check --jobs 0 set", "check --jobs x set", "check --jobs", "check --js set"],
     *["check --form 2 set", "check --junit", "check --timeout 0 set", "check --json --output-format github set"],
+    *[f"{it} --timeout {seconds} set" for it in ("check", "list", "compare set") for seconds in NO_SECONDS],
+    *[f"check --jobs {it} set" for it in ("nan", "-1", "1.5", "1e3")],
     *["check --output-format xml set", "check --csv set", "check --files0-from", "check --files0-from - -"],
     *["check --staged=x set", "check --staged -q", "check --staged --incremental x", "manifest --staged"],
     *["manifest", "manifest --form 3 set", "manifest --verify x --form 2", "manifest --verify x --output y"],

@@ -20,9 +20,10 @@ from typing import Any
 
 import pytest
 from known import ROADS, ROADS_CANON
+from needs import leave_out
 from reading import GRAPHS, MOST, Fault, Text, canonical, read
 from shared import ROOT, bytes_of, run
-from test_calls import ALL, BOTH, COLUMNS, PACKAGE, READS, has_numpy, told
+from test_calls import ALL, BOTH, COLUMNS, FORMS, PACKAGE, READS, has_numpy, told
 from texts import lines_of, made, spelled
 
 import dnorm
@@ -134,18 +135,79 @@ def test_notebooks() -> None:
     assert "&lt;dnorm.Sp: 3 nodes, 5 arcs&gt;" in shown and shown.count("<tr>") == 6 and "<td>-5</td>" in shown, shown
     many = dnorm.from_arrays("ss", sources=range(1, 100))._repr_html_()
     assert many.count("<tr>") == 12 and many.endswith("<tr><td>...</td></tr></table>"), many
-    mine = array("q", [1])
-    for column in [mine, memoryview(mine), *own_array(mine)]:
-        graph = dnorm.Sp(1, column, column, column)
-        before = hash(graph)
-        mine[0] = 7
-        assert (hash(graph), graph.tails[0]) == (before, 1), f"a constructor copies {type(column)}"
-        mine[0] = 1
 
 
-def own_array(numbers: "array[int]") -> list[Any]:
-    """Returns a numpy array of these numbers that can be written, where numpy is there."""
-    return [importlib.import_module("numpy").asarray(numbers)] if has_numpy() else []
+@ALL
+def test_copies() -> None:
+    """Instances keep copies of what callers give, which callers can go on writing; and what is made of an instance is
+    no part of it."""
+    calls: list[Callable[[Any], Any]] = [
+        lambda it: dnorm.Sp(1, it, it, it),
+        lambda it: dnorm.from_arrays("sp", nodes=1, tails=it, heads=it, lengths=it),
+        lambda it: dnorm.from_arrays("min", nodes=1, tails=it, heads=it, caps=it, costs=it, supplies=it),
+        lambda it: dnorm.from_arrays("ss", sources=it),
+    ]
+    for call in calls:
+        for wrap in [lambda it: it, memoryview, lambda it: memoryview(it).toreadonly(), *arrays_of_numpy()]:
+            mine = array("q", [1])
+            given = wrap(mine)
+            instance = call(given)
+            kept = pickle.dumps(instance)
+            mine[0] = 7
+            assert (pickle.dumps(instance), [*next(instance.rows())][:1]) == (kept, [1]), f"a copy of {type(given)}"
+            if getattr(given, "flags", None) is not None and given.flags.writeable:
+                given[0] = 8
+                assert pickle.dumps(instance) == kept, f"a copy of {type(given)}, written itself"
+            assert is_fixed(instance), f"columns of {type(given)}"
+    mine_too = [1]
+    listed = dnorm.from_arrays("ss", sources=mine_too)
+    mine_too[0] = 7
+    flows_too = {1: 5}
+    flow = flows(flows_too)
+    flows_too[1] = 6
+    assert (list(listed), dict(flow.supplies)) == ([(1,)], {1: 5}), "a copy of a list, and of a dictionary"
+
+
+def arrays_of_numpy() -> list[Callable[[Any], Any]]:
+    """Returns what makes arrays of numpy that share the memory of an array, where numpy is there: one that can be
+    written, one that cannot, and a view."""
+    if not has_numpy():
+        return []
+    numpy = importlib.import_module("numpy")
+
+    def fixed(numbers: Any) -> Any:
+        made = numpy.asarray(numbers)
+        made.setflags(write=False)
+        return made
+
+    return [numpy.asarray, fixed, lambda it: numpy.asarray(it)[::1]]
+
+
+@pytest.mark.parametrize("reader", ["numpy"], indirect=True)
+def test_numpy() -> None:
+    """Arrays of numpy of other types and shapes, which stay what they are."""
+    numpy = importlib.import_module("numpy")
+    roads = dnorm.from_arrays("sp", nodes=3, tails=[1, 2], heads=[2, 3], lengths=[7, 9])
+    for kind in ["int64", ">i8", "int32", "uint8", "uint64"]:
+        wide = numpy.array([[1, 2, 7], [0, 0, 0], [2, 3, 9]], dtype=kind)
+        columns = [wide[::2, at] for at in range(3)]
+        made = dnorm.from_arrays("sp", nodes=3, tails=columns[0], heads=columns[1], lengths=columns[2])
+        assert (made, wide.flags.writeable, columns[0].flags.writeable) == (roads, True, True), f"columns of {kind}"
+        wide[:] = 1
+        assert made == roads, f"a copy of {kind}"
+    masked = numpy.ma.masked_array([7, 9], mask=[False, True])
+    for call in [
+        lambda: dnorm.from_arrays("ss", sources=masked),
+        lambda: dnorm.Ss(masked),
+        lambda: dnorm.from_arrays("ss", sources=numpy.ones((2, 2), int)),
+        lambda: dnorm.from_arrays("ss", sources=numpy.array([1.0])),
+        lambda: dnorm.Ss(numpy.ones(2, "int32")),
+    ]:
+        assert told(call).startswith("TypeError: sources"), "masked, nested and other numbers"
+    too_large = numpy.array([2**63], "uint64")
+    assert told(lambda: dnorm.from_arrays("ss", sources=too_large)).startswith(
+        "OverflowError: sources has 9223"
+    ), "2^63"
 
 
 @ALL
@@ -167,12 +229,15 @@ def test_checked_numbers() -> None:
         (lambda: ends({"source": 1.5}), "TypeError: source: 'float' object cannot be interpreted as an integer"),
         (lambda: ends({"source": 0}), "ValueError: source is 0, which is no node of 1 to 2: nodes count from 1"),
         (lambda: ends({"sink": 3}), "ValueError: sink is 3, which is no node of 1 to 2: nodes count from 1"),
-        (lambda: flows({1: 4.7}), "TypeError: supplies: 'float' object cannot be interpreted as an integer"),
-        (lambda: flows({"1 s": 4}), "TypeError: supplies: 'str' object cannot be interpreted as an integer"),
+        (lambda: flows({1: 4.7}), "TypeError: supplies[1]: 'float' object cannot be interpreted as an integer"),
+        (
+            lambda: flows({"1 s": 4}),
+            "TypeError: node '1 s' of supplies: 'str' object cannot be interpreted as an integer",
+        ),
         (lambda: flows({0: 5}), "ValueError: supplies has node 0, which is none of 1 to 2: nodes count from 1"),
         (lambda: flows({3: 5}), "ValueError: supplies has node 3, which is none of 1 to 2: nodes count from 1"),
         (lambda: flows([5]), "ValueError: supplies has 1 numbers, and there are 2 nodes"),
-        (lambda: flows([5, "x"]), "TypeError: supplies: 'str' object cannot be interpreted as an integer"),
+        (lambda: flows([5, "x"]), "TypeError: supplies[1]: 'str' object cannot be interpreted as an integer"),
         (lambda: dnorm.from_arrays("spp", nodes=2), f"TypeError: {OF_KINDS}"),  # type: ignore[call-overload]
         (lambda: dnorm.from_arrays(dict, nodes=2), f"TypeError: {OF_KINDS}"),  # type: ignore[type-var]
         (lambda: dnorm.from_arrays(dnorm.Graph, nodes=2), f"TypeError: {OF_KINDS}"),
@@ -197,15 +262,21 @@ def test_constructors() -> None:
     listed: Any = [1]
     rows: list[tuple[Callable[[], object], str]] = [
         (lambda: dnorm.Sp(2, listed, listed, listed), f"TypeError: tails is an array of 64 signed bits, {other}"),
-        (lambda: arrays({"lengths": [1.5]}), "TypeError: lengths: 'float' object cannot be interpreted as an integer"),
-        (lambda: arrays({"lengths": ["3"]}), "TypeError: lengths: 'str' object cannot be interpreted as an integer"),
-        (lambda: arrays({"lengths": [[3]]}), "TypeError: lengths: 'list' object cannot be interpreted as an integer"),
+        (
+            lambda: arrays({"lengths": [1.5]}),
+            "TypeError: lengths[0]: 'float' object cannot be interpreted as an integer",
+        ),
+        (lambda: arrays({"lengths": ["3"]}), "TypeError: lengths[0]: 'str' object cannot be interpreted as an integer"),
+        (
+            lambda: arrays({"lengths": [[3]]}),
+            "TypeError: lengths[0]: 'list' object cannot be interpreted as an integer",
+        ),
         (lambda: arrays({"lengths": [3, 4]}), "ValueError: tails and lengths have 1 and 2 numbers"),
         (lambda: arrays({"heads": []}), "ValueError: tails and heads have 1 and 0 numbers"),
     ]
     for call, wanted in rows:
         assert told(call) == wanted, wanted
-    wide: list[tuple[dict[str, Any], str]] = [({"lengths": [it]}, "lengths: ") for it in (MOST + 1, -MOST - 2)]
+    wide: list[tuple[dict[str, Any], str]] = [({"lengths": [7, it]}, "lengths[1]: ") for it in (MOST + 1, -MOST - 2)]
     for attributes, begin in [*wide, ({"nodes": MOST + 1}, f"nodes is {MOST + 1}, which does not fit into 64 signed")]:
         try:
             found = repr(arrays(attributes))
@@ -251,7 +322,7 @@ def test_written() -> None:
     def of(text: Text) -> tuple[bytes, bytes, bytes, bytes]:
         target, again = io.BytesIO(), io.BytesIO()
         dnorm.write(instance_of(text), target)
-        form = 1 + len(text.items) % 2
+        form = FORMS[len(text.items) % 2]
         found = dnorm.read(target.getvalue(), form)
         dnorm.write(found, again)
         return target.getvalue(), again.getvalue(), dnorm.canon(target.getvalue(), form), canonical(text, form)
@@ -299,7 +370,12 @@ def test_typed() -> None:
         env={**os.environ, "PYTHONPATH": PACKAGE},
     )
     wanted = "10 None 9\ncost of 1 2 same\n-1 at 5 from 1 MIN and SP\n(2, 'NodeOutOfRange') (None, 'sp (1, 2)')\n"
-    wanted += "p sp 2 2\na 1 2 7\na 1 2 4\n2 [7, 4]\n" + (
-        "" if run([sys.executable, "-c", "import numpy"]).status else "(11, 2)\n"
-    )
-    assert (found.out.decode(), found.err, found.status) == (wanted, b"", 0), "typed.py"
+    wanted += "p sp 2 2\na 1 2 7\na 1 2 4\n2 [7, 4]\n90\n(11, 2)\n2 edges, 2 entries, 2 rows, 4 the least\n"
+    lacking = [
+        it for it in ["numpy", "networkx", "scipy", "pandas"] if run([sys.executable, "-c", f"import {it}"]).status
+    ]
+    # Without one of these, the page ends before the line that needs it.
+    assert (wanted.startswith(found.out.decode()), found.err, found.status) == (True, b"", 0), "typed.py"
+    if lacking:
+        leave_out(lacking[0])
+    assert found.out.decode() == wanted, "typed.py"

@@ -23,7 +23,7 @@ from known import CANONICAL, ROADS
 from needs import leave_out
 from reading import COUNTED
 from shared import LIMIT, ROOT, run, said, write
-from test_calls import COLUMNS, PACKAGE, READS, fake, told
+from test_calls import COLUMNS, FORMS, PACKAGE, READS, fake, told
 from test_folders import ENVIRONMENT, MODULE, make
 from texts import lines_of, made, spelled
 
@@ -173,7 +173,7 @@ def test_same_instances() -> None:
     arcs = b"".join(b"a %d 1 1 3 -%d\n" % (it, it) for it in range(1, count + 1))
     texts.append(b"p min %d %d\n" % (count, count) + arcs)
     for text in texts:
-        for form in [1, 2]:
+        for form in FORMS:
             found: list[object] = []
             for library in ["none", LIBRARY]:
                 os.environ["DNORM_LIBRARY"] = library

@@ -14,6 +14,7 @@ import signal
 import sys
 import time
 from collections.abc import Callable
+from fractions import Fraction
 from typing import Any
 from xml.etree import ElementTree
 
@@ -24,7 +25,7 @@ from needs import leave_out
 from reading import Text as Known
 from reading import Fault, canonical, read
 from shared import ROOT, bytes_of, python_with, run, said, write
-from test_calls import BOTH, COMPRESS, READS, fake, told
+from test_calls import ALL, BOTH, COMPRESS, READS, fake, told
 from test_folders import ENVIRONMENT, make, module, on_terminal
 from texts import lines_of, made, spelled
 
@@ -36,6 +37,7 @@ from dnorm.limits import Limit
 
 pytestmark = READS
 SEED, ROUNDS = 21, 60
+INFINITE = float("inf")
 # Refused texts, with the line and the hint of the refusal. A file is "t.gr".
 MANY = b"p max 3 3\nn 1 s\nn 3 t\na 1 2 9223372036854775800\na 1 3 1\na 1 2 8\n"
 NUL_WITHIN = "The line has NUL within, where data may be lost: get the file again"
@@ -433,8 +435,7 @@ class SlowLibrary:
 
 
 def test_long_steps() -> None:
-    """A step of the library that takes long ends no later than the limit, and frees its memory at its end;
-    and that limits are not below 0."""
+    """A step of the library that takes long ends no later than the limit, and frees its memory at its end."""
     library: Any = SlowLibrary()
     start = time.monotonic()
     with contextlib.ExitStack() as stack:
@@ -449,9 +450,43 @@ def test_long_steps() -> None:
     setattr(dnorm.reader, "instance", lack_memory)
     assert told(lambda: dnorm.read(ROADS)) == "Memory: -: 30 Memory", "little memory for columns"
     setattr(dnorm.reader, "instance", kept)
-    assert (
-        told(lambda: dnorm.check(ROADS, timeout=-1)) == "ValueError: timeout is at least 0, and not -1"
-    ), "a limit below 0"
+
+
+# Limits that no call takes.
+NO_LIMITS: list[Any] = [-1, INFINITE, -INFINITE, float("nan"), 1e300, 10**400, 10**9 + 1, "5", b"5", [5]]
+
+
+@ALL
+def test_limits() -> None:
+    """Limits that are no number of seconds, or one that no clock reaches, and the greatest limit."""
+    write("t.gr", ROADS)
+    write("t.gr.gz", gzip.compress(ROADS))
+    calls: list[Callable[[Any], object]] = [
+        lambda it: dnorm.check("t.gr", timeout=it),
+        lambda it: dnorm.canon(ROADS, timeout=it),
+        lambda it: dnorm.canon_to(ROADS, "new.gr", timeout=it),
+        lambda it: dnorm.checksum("t.gr.gz", timeout=it),
+        lambda it: dnorm.compare("t.gr", "t.gr.gz", timeout=it),
+        lambda it: dnorm.differences("t.gr.gz", "t.gr", timeout=it),
+        lambda it: dnorm.show("t.gr", timeout=it),
+        lambda it: dnorm.read("t.gr.gz", timeout=it),
+        lambda it: dnorm.write(dnorm.read(ROADS), io.BytesIO(), timeout=it),
+    ]
+    for call in calls:
+        for limit in NO_LIMITS:
+            found = told(lambda: call(limit))
+            is_number = isinstance(limit, (int, float))
+            kind = (
+                f"at least 0 and at most 1000000000 seconds, and not {limit}" if is_number else "a number of seconds, "
+            )
+            assert found.startswith(f"{'ValueError' if is_number else 'TypeError'}: timeout is {kind}"), found
+        for limit in [10**9, 1e9, Fraction(10**9)]:
+            assert told(lambda: call(limit)) == told(lambda: call(None)), "the greatest limit"
+    assert sorted(os.listdir(".")) == ["new.gr", "t.gr", "t.gr.gz"], "what is left"
+    for pairs in [-1, 1.5, INFINITE, "1"]:
+        wanted = "ValueError: limit is at least 0, and not -1" if pairs == -1 else "TypeError: limit: "
+        found = told(lambda: dnorm.differences("t.gr", "t.gr", pairs))  # type: ignore[arg-type]
+        assert found.startswith(wanted), "a limit of pairs"
 
 
 def before(rows: list[tuple[str, Callable[[], object], str]]) -> None:
@@ -698,6 +733,10 @@ def test_comparisons(tested: str) -> None:
     short = "<dnorm.Differences: differ pair 1 2 length 3 none, only_left=5, only_right=0, both=0, different=0>"
     assert repr(dnorm.differences(ROADS, b"p sp 3 0\n")) == short, "the repr of differences"
     assert repr(dnorm.show(b"p aux sp ss 0\n")) == "<dnorm.Shown: kind='ss', lines=0>", "a companion's repr"
+    html = shown._repr_html_()
+    assert (html.count("<tr>"), html.count("<td>...</td>")) == (12, 3) and "<td>length</td></tr><tr><td>1</td>" in html
+    html = dnorm.differences(ROADS, b"p sp 3 0\n")._repr_html_()
+    assert html.startswith("<p>&lt;dnorm.Differences: ") and html.count("<tr>") == 6 and "<td>(1, 2)</td>" in html, html
 
 
 def test_compared_quietly() -> None:
@@ -725,6 +764,9 @@ def by_pair(text: Known) -> dict[tuple[str, ...], list[list[str]]]:
     return found
 
 
+ENDS = {"source": "s", "sink": "t"}
+
+
 @BOTH
 def test_summaries() -> None:
     """Tests `differences` on random pairs of graphs, beside a count of the pairs of their canonical texts."""
@@ -749,6 +791,11 @@ def test_summaries() -> None:
             assert found.reversed == tuple(sorted(tuple(map(int, it)) for it in turned)), "reversed ones"
             assert sum(count for _, count in found.fields) == len(different), "their fields"
             assert str(found.first) == str(dnorm.compare(one, other)), "the first one"
+            flows = [it for it in {*left.flows, *right.flows} if left.flows.get(it, 0) != right.flows.get(it, 0)]
+            ends = [("nodes", left.nodes, right.nodes)]
+            ends += [(name, left.terminals.get(it, 0), right.terminals.get(it, 0)) for name, it in ENDS.items()]
+            unlike = tuple(it for it in ends if it[1] != it[2])
+            assert (found.supplies, found.values) == (len(flows), unlike), "flows and other values"
     assert len(dnorm.differences(ROADS, b"p sp 3 0\n", 2).pairs) == 2, "a limit"
     found_ = told(lambda: dnorm.differences(ROADS, ROADS, -1))
     assert found_ == "ValueError: limit is at least 0, and not -1", "no limit"

@@ -15,7 +15,7 @@ import pytest
 from needs import leave_out, need, pass_over, seeds
 from reading import Text, canonical
 from shared import run, write
-from test_calls import READS, told
+from test_calls import FORMS, READS, told
 from texts import lines_of
 
 import dnorm
@@ -120,8 +120,8 @@ def test_cheapest(chance: random.Random) -> None:
     text.flows = {node: flow for node, flow in balance.items() if flow or chance.random() < 0.3}
     given = bytes_of(chance, text)
     wanted = least_cost(text)
-    found = [*(by_networkx(dnorm.read(given, form)) for form in [1, 2]), *optima("--mincost", given)]
-    found += [by_linear_program(dnorm.read(given, form)) for form in [1, 2]]
+    found = [*(by_networkx(dnorm.read(given, form)) for form in FORMS), *optima("--mincost", given)]
+    found += [by_linear_program(dnorm.read(given, form)) for form in FORMS]
     assert found == [wanted] * len(found), "least costs"
 
 
@@ -170,6 +170,24 @@ def same_networks(chance: random.Random) -> None:
         assert dnorm.from_networkx(kind, found.to_networkx()) == found, f"{given!r}, to networkx and back"
 
 
+INFINITE = float("inf")
+
+
+def arc(source: int = 1, sink: int = 2, **attributes: object) -> Any:
+    """Returns a graph of networkx with an edge of these attributes."""
+    graph = networkx.DiGraph(source=source, sink=sink)
+    given: dict[str, Any] = {"capacity": 1, "weight": 1, **attributes}
+    graph.add_edge(1, 2, **given)
+    return graph
+
+
+def demanding(node: int, demand: float) -> Any:
+    """Returns such a graph whose node has this demand."""
+    graph = arc()
+    graph.nodes[node]["demand"] = demand
+    return graph
+
+
 def test_unfit() -> None:
     """Graphs of networkx that are no instance, and instances with parallel arcs."""
     directed = networkx.DiGraph([(1, 2)])
@@ -177,7 +195,25 @@ def test_unfit() -> None:
         (dnorm.Sp, networkx.Graph([(1, 2)]), "ValueError: the graph is undirected: "),
         (dnorm.Sp, networkx.DiGraph([(0, 1)]), "ValueError: the 2 nodes are not the numbers 1 to 2"),
         (dnorm.Sp, networkx.DiGraph([("a", "b")]), "ValueError: the 2 nodes are not the numbers 1 to 2"),
-        (dnorm.Sp, networkx.DiGraph([(1, 2, {"weight": 0.5})]), "TypeError: lengths: 'float' object cannot be"),
+        (
+            dnorm.Sp,
+            networkx.DiGraph([(1, 2, {"weight": 0.5})]),
+            "TypeError: the weight of the edge from 1 to 2 is 0.5: '",
+        ),
+        (dnorm.Sp, arc(weight=5.0), "TypeError: the weight of the edge from 1 to 2 is 5.0: 'float' object cannot be "),
+        (dnorm.Min, arc(weight="5"), "TypeError: the weight of the edge from 1 to 2 is '5': 'str' object cannot be "),
+        (dnorm.Max, arc(capacity=INFINITE), "TypeError: the capacity of the edge from 1 to 2 is inf: 'float' object "),
+        (dnorm.Min, arc(capacity=INFINITE), "TypeError: the capacity of the edge from 1 to 2 is inf: 'float' object "),
+        (dnorm.Min, arc(low=0.5), "TypeError: the low of the edge from 1 to 2 is 0.5: 'float' object cannot be "),
+        (dnorm.Sp, arc(weight=2**63), "OverflowError: the weight of the edge from 1 to 2 is 9223372036854775808: "),
+        (dnorm.Min, arc(low=2**63 - 1), "OverflowError: the low with the capacity of the edge from 1 to 2 is 922337"),
+        (dnorm.Min, demanding(1, 1.5), "TypeError: the demand of node 1: 'float' object cannot be interpreted as an "),
+        (
+            dnorm.Min,
+            demanding(2, 2**63),
+            "OverflowError: the demand of node 2 is 9223372036854775808, which does not ",
+        ),
+        (dnorm.Max, arc(source=1, sink=3), "ValueError: sink is 3, which is no node of 1 to 2: nodes count from 1"),
         (dnorm.Max, networkx.DiGraph([(1, 2)], source=1, sink=2), "ValueError: the edge from 1 to 2 has no capacity"),
         (
             dnorm.Max,
@@ -197,11 +233,11 @@ def test_unfit() -> None:
     lengths = dnorm.from_arrays(dnorm.Sp, **ends, lengths=[7, 4])
     for call in [parallel.to_networkx, parallel.to_scipy, lengths.to_networkx, lengths.to_scipy]:
         assert told(call).startswith("ValueError: arcs are parallel: "), "parallel arcs"
-    arc: dict[str, Any] = {"nodes": 2, "tails": [0], "heads": [1]}
+    first: dict[str, Any] = {"nodes": 2, "tails": [0], "heads": [1]}
     beyond: list[Any] = [
-        dnorm.from_arrays("sp", **arc, lengths=[1]),
-        dnorm.from_arrays("max", **arc, capacities=[1], source=1, sink=2),
-        dnorm.from_arrays("min", **arc, caps=[1], costs=[1]),
+        dnorm.from_arrays("sp", **first, lengths=[1]),
+        dnorm.from_arrays("max", **first, capacities=[1], source=1, sink=2),
+        dnorm.from_arrays("min", **first, caps=[1], costs=[1]),
     ]
     wanted = "ValueError: tails has a node that is none of 1 to 2: nodes count from 1"
     for it in beyond:
@@ -219,6 +255,21 @@ def test_options() -> None:
     for words, wanted in rows:
         found: Any = dnorm.from_networkx("sp", graph, **words)
         assert found.lengths.tolist() == wanted, f"lengths by {words}"
+    # Its types take none of these.
+    made_by: Any = dnorm.from_networkx
+    for name in ["sp", dnorm.Min]:
+        told_ = told(lambda: made_by(name, graph, capacity="room", weight=None, source=1))
+        assert told_.endswith(" takes no source"), told_
+    networkx.set_edge_attributes(graph, {(2, 3): {"room": 8, "length": 6, "half": 0.5}})
+    wrong_words: list[tuple[dict[str, Any], str]] = [
+        ({"weight": "half"}, "ValueError: the edge from 1 to 2 has no half"),
+        ({"low": "half"}, "TypeError: the half of the edge from 2 to 3 is 0.5: "),
+        ({"demand": "half"}, "ValueError: the edge from 1 to 2 has no weight"),
+        ({"weight": lambda tail, head, data: tail / 2}, "TypeError: the weight of the edge from 1 to 2 is 0.5: "),
+    ]
+    for words, begin in wrong_words:
+        told_ = told(lambda: made_by("min", graph, **{"capacity": "room", **words}))
+        assert told_.startswith(begin), f"{words}: {told_}"
     found = dnorm.from_networkx(dnorm.Max, graph, capacity="room", source=1, sink=3)
     assert (found.source, found.sink, found.capacities.tolist()) == (1, 3, [7, 8]), "a max graph"
     costs = dnorm.from_networkx(dnorm.Min, graph, capacity="room", weight=None)
@@ -229,18 +280,41 @@ def test_options() -> None:
         made = dnorm.from_scipy(dnorm.Sp, matrix)
         assert sorted(made.rows()) == [(1, 3, 4), (2, 1, 0), (3, 3, 9)], "a matrix"
         assert abs(made.to_scipy() - matrix).sum() == 0, "there and back"
-        flow = dnorm.from_scipy("max", matrix, source=0, sink=2)
-        assert (flow.source, flow.sink, flow.nodes) == (1, 3, 3), "terminals are rows"
+        flow = dnorm.from_scipy("max", matrix, source=1, sink=3)
+        assert (flow.source, flow.sink, flow.nodes) == (1, 3, 3), "terminals are nodes"
+        again = dnorm.from_scipy("max", flow.to_scipy(), source=flow.source, sink=flow.sink)
+        assert (again.source, again.sink, sorted(again)) == (1, 3, sorted(flow)), "there and back"
     # Its types take none of these.
     made_of: Any = dnorm.from_scipy
-    wrong: list[tuple[Any, Any, str]] = [
-        ("sp", sparse.csr_matrix((2, 3), dtype=int), "ValueError: the matrix has 2 rows and 3 columns"),
-        ("sp", sparse.csr_matrix([[0.5]]), "TypeError: lengths: 'numpy.float64' object cannot be interpreted"),
-        ("max", sparse.csr_matrix([[1]]), "TypeError: source and sink are missing"),
-        (dnorm.Min, sparse.csr_matrix([[1]]), "TypeError: from_scipy makes Sp and Max, and not Min"),
+    wrong: list[tuple[Any, Any, dict[str, int], str]] = [
+        ("sp", sparse.csr_matrix((2, 3), dtype=int), {}, "ValueError: the matrix is not square: its shape is (2, 3)"),
+        (
+            "sp",
+            sparse.csr_matrix([[0, 0.5], [0, 0]]),
+            {},
+            "TypeError: the matrix has numbers of float64, as 0.5 in row ",
+        ),
+        ("sp", sparse.csr_matrix([[7]]).toarray(), {}, "TypeError: a sparse matrix is wanted, and not ndarray: scipy."),
+        ("sp", [[7]], {}, "TypeError: a sparse matrix is wanted, and not list: "),
+        (
+            "sp",
+            sparse.coo_matrix(([3, 4], ([0, 0], [0, 0]))),
+            {},
+            "ValueError: the matrix has two entries at one place",
+        ),
+        ("sp", sparse.csr_matrix([[1]]), {"sink": 1}, "TypeError: Sp takes no sink"),
+        ("max", sparse.csr_matrix([[1]]), {}, "TypeError: source and sink are missing: the nodes"),
+        (
+            "max",
+            flow.to_scipy(),
+            {"source": 0, "sink": 2},
+            "ValueError: source is 0, which is no node of 1 to 3: nodes",
+        ),
+        ("max", flow.to_scipy(), {"source": 1, "sink": 4}, "ValueError: sink is 4, which is no node of 1 to 3: nodes"),
+        (dnorm.Min, sparse.csr_matrix([[1]]), {}, "TypeError: from_scipy makes Sp and Max, and not Min"),
     ]
-    for kind, matrix, begin in wrong:
-        told_ = told(lambda: made_of(kind, matrix))
+    for kind, matrix, words, begin in wrong:
+        told_ = told(lambda: made_of(kind, matrix, **words))
         assert told_.startswith(begin), f"{begin}: {told_}"
 
 

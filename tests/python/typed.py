@@ -5,7 +5,7 @@ from __future__ import annotations
 
 import importlib.util
 import sys
-from typing import Optional
+from typing import Literal, Optional
 
 # This puts the folder of the package on the path.
 import dnorm
@@ -69,6 +69,33 @@ def sums(graph: dnorm.Sp) -> tuple[int, int]:
     return int(lengths.sum()), int((lengths > 3).sum())
 
 
+def by_others(graph: dnorm.Sp) -> str:
+    """Returns what networkx, scipy and pandas say of a graph, whose edges are not parallel."""
+    network, matrix, frame = graph.to_networkx(), graph.to_scipy(), graph.to_pandas()
+    again = dnorm.from_networkx("sp", network), dnorm.from_scipy("sp", matrix)
+    least = min(int(it.lengths.min()) for it in again)
+    return f"{network.number_of_edges()} edges, {matrix.nnz} entries, {len(frame)} rows, {least} the least"
+
+
+def rows_of(graph: dnorm.Sp, flow: dnorm.Min, form: Literal[1, 2]) -> int:
+    """Returns a sum over the rows of instances, each of which has a type of its own."""
+    # mypy accepts neither for rows of any length.
+    arc: tuple[int, int, int] = next(graph.arcs())
+    row: tuple[int, int, int, int, int] = next(iter(flow))
+    total = sum(length for _, _, length in graph) + sum(cap - low for _, _, low, cap, _ in flow.rows())
+    total += 0 * (arc[2] + row[4])
+    companion = dnorm.from_arrays("ss", sources=[form])
+    forms = dnorm.check(companion).forms
+    return total + sum(source for (source,) in companion) + len(dnorm.canon(flow, forms[0]))
+
+
+def wrong(graph: dnorm.Sp) -> None:
+    """Calls that a type checker refuses: mypy complains of a comment below that ignores nothing."""
+    dnorm.canon(graph, 3)  # type: ignore[arg-type]
+    dnorm.from_networkx("sp", graph.to_networkx(), source=1)  # type: ignore[call-overload]
+    dnorm.from_scipy("max", graph.to_scipy())  # type: ignore[call-overload]
+
+
 def main() -> int:
     print(cost_of("flow.min"), cost_of("roads.gr"), longest("roads.gr"))
     print(first_difference("flow.min", "flow-cheaper.min"), first_difference("flow.min", "flow.min"))
@@ -79,8 +106,13 @@ def main() -> int:
     sys.stdout.flush()
     dnorm.write(made, sys.stdout.buffer)
     print(len(made), [length for _, _, length in made.arcs()])
+    flow = dnorm.read("flow.min", 2)
+    assert isinstance(flow, dnorm.Min)
+    print(rows_of(made, flow, 2))
     if importlib.util.find_spec("numpy"):
         print(sums(made))
+    if all(map(importlib.util.find_spec, ["networkx", "scipy", "pandas"])):
+        print(by_others(dnorm.from_arrays("sp", nodes=3, tails=[1, 2], heads=[2, 3], lengths=[7, 4])))
     return 0
 
 

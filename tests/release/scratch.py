@@ -134,8 +134,8 @@ class Place:
         for it in [f"{OUT}/rlib/dnorm.o", "crates/dn_c/out/library/dn_c.a", *(f"{OUT}/{name}" for name in BUILT)]:
             if os.path.exists(f"{ROOT}/{it}"):
                 shutil.copy(f"{ROOT}/{it}", f"{folder}/{it}")
-        for it in [OUT, "c/out"]:
-            write(f"{folder}/{it}/built", "")
+        write(f"{folder}/{OUT}/built", run([f"{folder}/tools/source-sum", "--list", "program"]).out)
+        write(f"{folder}/c/out/built", "")
 
     def git(self, *words: str) -> None:
         who = {f"GIT_{one}_{it}": value for one in ["AUTHOR", "COMMITTER"] for it, value in WHO.items()}

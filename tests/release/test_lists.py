@@ -2,6 +2,7 @@
 those that are written are mended. All rules and kinds lack nothing, a rule and a kind that are new are lacking where
 the others stand, and a rule that is removed from a place is lacking there."""
 
+import os
 import shutil
 import sys
 from collections.abc import Iterator
@@ -131,6 +132,19 @@ def changed(copy: Copy, request: pytest.FixtureRequest) -> Iterator[tuple[str, s
 def test_same(copy: Copy) -> None:
     assert copy.run("refusals") == (set(), 0)
     assert copy.run("lacks") == (set(), 0)
+
+
+@pytest.mark.parametrize(
+    "old, new", [(" 6 LateNode", " 6 EarlyNode"), (" 7 ", " 8 "), ("", ""), ("line fol", "row fol")]
+)
+def test_program(copy: Copy, tested: str, folder: str, old: str, new: str) -> None:
+    """What the help of a program lists is compared by number, name and sentence."""
+    told = run([tested, "help"]).out.decode()
+    assert old in told
+    write("other", f"#!/bin/sh\ncat << 'END'\n{told.replace(old, new, 1)}END\n")
+    os.chmod("other", 0o755)
+    found, status = copy.run("refusals", os.path.abspath("other"))
+    assert (len(found), status) == ((1, 1) if old else (0, 0)), found
 
 
 @pytest.mark.parametrize("changed", WRITTEN, ids=str, indirect=True)

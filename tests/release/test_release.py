@@ -312,7 +312,7 @@ def test_python_wheel(made: Made, two: Place) -> None:
         infos = wheel.infolist()
         metadata = wheel.read(f"{made.wheel.removesuffix('-py3-none-any.whl')}.dist-info/METADATA").decode()
     names = [it.filename for it in infos]
-    modules = sorted([*MODULES, *SUITE])
+    modules = sorted([*MODULES, *SUITE, "dnorm/FILES.md"])
     assert sorted(it for it in names if it.startswith("dnorm/")) == modules, "the wheel's modules"
     assert {it.external_attr >> 16 & 0o777 for it in infos if it.filename in modules} == {0o644}, "its modes"
     assert {it.date_time for it in infos} == {time.gmtime(TIME - 1)[:6]}, "its times"
@@ -378,7 +378,7 @@ def test_by_pip(made: Made, two: Place) -> None:
         before = all_below(f"{place}/bin")
         found = run([*pip, "install", "--quiet", "--no-index", "--no-deps", f"{made.one.dist}/{wheel}"])
         assert (found.out, found.status) == (b"", 0), f"pip install {wheel}"
-        commands = ["dnorm", "dnorm-files"] if has_program else ["dnorm-files"]
+        commands = ["canon-in-parts", *["dnorm"] * has_program, "dnorm-explain", "dnorm-files"]
         assert sorted(all_below(f"{place}/bin").keys() - before) == commands, "its commands"
         own = {"PATH": "/none"} | ({} if has_program else {"DNORM": made.tested})
         code = "import dnorm; print(dnorm.version(), dnorm.find_program(), dnorm.find_library() or '')"
@@ -390,6 +390,10 @@ def test_by_pip(made: Made, two: Place) -> None:
         for command in [[f"{place}/bin/dnorm-files"], [f"{place}/bin/python", "-m", "dnorm"]]:
             found = run([*command, "check", "roads.gr"], cwd=made.folder, env=own)
             assert found == said("roads.gr: accepted sp\n", "1 accepted, 0 refused, 0 failed\n"), f"{command}"
+        (page,) = glob.glob(f"{place}/lib/python*/site-packages/dnorm/FILES.md")
+        assert f"{page} describes the commands" in run([f"{place}/bin/dnorm-files", "--help"], env=own).out.decode()
+        for name in ["canon-in-parts", "dnorm-explain"]:
+            assert run([f"{place}/bin/{name}", "--help"], env=own).status == 0, name
         found = run([*pip, "uninstall", "--quiet", "--yes", "dnorm"])
         assert (found.status, all_below(f"{place}/bin")) == (0, before), "pip uninstall"
 
@@ -664,7 +668,8 @@ def test_stages(scratch: Made) -> None:
     os.mkdir(stage)
     found = install(scratch.one.folder, "/usr", below=stage)
     told = sorted(f"/usr/{it}" for it in all_listed())
-    assert (sorted(found.out.decode().splitlines()[:-2]), found.err, found.status) == (told, b"", 0), "DESTDIR"
+    # It has no advice for the shell of whoever makes a package.
+    assert (sorted(found.out.decode().splitlines()), found.err, found.status) == (told, b"", 0), "DESTDIR"
     shutil.copytree(f"{stage}/usr", prefix, symlinks=True)
     assert install(scratch.one.folder, "--uninstall", "/usr", below=stage) == said(), "--uninstall below DESTDIR"
     assert all_below(stage) == {}, "what is left below DESTDIR"

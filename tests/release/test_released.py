@@ -1,21 +1,27 @@
 """What a clone does with released/: ./dnorm, tools/program, tools/c-library and ./install take the released files if
 they were made from the sources that are there, and say in one line what to do if a file was changed, a source was, or
-the kit is another one; tools/released finds every released file that is not what is made here.
+the kit is another one; tools/released finds every released file that is not what is made here. Further, ./check ends
+what it has started, and tests/run says what it leaves out.
 
 All of this happens in scratch repositories with crates of one line, in which the tested program is the released one.
 What needs the kit and what it has made (by `./check`, or by tools/build and tools/c-library) is left out without
 these."""
 
+import contextlib
 import gzip
 import os
 import re
 import shutil
+import signal
+import subprocess
+import time
 from collections.abc import Callable
+from typing import Any
 
 import pytest
 from known import ROADS, ROADS_CANON
 from needs import leave_out, pass_over
-from shared import ROOT, Answer, bytes_of, run, said, text_of, write
+from shared import LIMIT, ROOT, Answer, bytes_of, own_folder, run, said, text_of, write
 
 pytestmark = pytest.mark.whole
 # What a scratch repository has of this one.
@@ -38,7 +44,7 @@ INSTALLED = ["755 dnorm bin/dnorm", "644 include/dnorm.h include/dnorm.h", "644 
 # A path of commands without `rt`.
 WITHOUT_RT = "/usr/bin:/bin"
 # The commands that ./dnorm calls to find the released program.
-USED = "bash cut date dirname env find head mkdir readlink sed sha256sum sort touch xargs"
+USED = "bash cut date dirname env find head mkdir mv readlink rm sed sha256sum sort touch xargs"
 KIT = text_of(f"{ROOT}/kit.txt").strip()
 NO_RT = f"dnorm: proving needs the kit '{KIT}', and there is no rt on the PATH: see docs/PROVED.md; released/ has the "
 NO_RT += "proved program 1.0\n"
@@ -56,7 +62,10 @@ class Clone:
             os.makedirs(os.path.dirname(f"{folder}/{it}"), exist_ok=True)
             shutil.copy(f"{ROOT}/{it}", f"{folder}/{it}")
         for name, text in {
-            "crates.txt": "dnorm:\ndn_c staticlib:\n",
+            "crates.txt": "dn_low:\ndnorm: dn_low\ndn_c staticlib:\n",
+            "crates/dn_low/src/lib.rt": "// a source\n",
+            "crates/dn_low/specs/State/Low.antt": "low : Nat\n",
+            "crates/dn_low/proofs/low/Proof.antt": "proof = low\n",
             "crates/dnorm/src/main.rt": "// a source\n",
             "crates/dn_c/src/lib.rt": "// a source\n",
             "share/installed.txt": "".join(f"{it}\n" for it in INSTALLED),
@@ -137,7 +146,7 @@ def test_takes(clone: Clone) -> None:
     runs("a source with a later time", clone)
     for name, other in [
         (source, "// another\n"),
-        ("crates.txt", "dnorm: \ndn_c staticlib:\n"),
+        ("crates.txt", "dn_low:\ndnorm:  dn_low\ndn_c staticlib:\n"),
         ("kit.txt", f"{KIT}x\n"),
     ]:
         kept = bytes_of(f"{clone.folder}/{name}")
@@ -161,13 +170,92 @@ def test_takes(clone: Clone) -> None:
     runs("a source less, as before", clone)
     clone.write(f"{OUT}/dnorm", "#!/bin/sh\necho built\n")
     os.chmod(f"{clone.folder}/{OUT}/dnorm", 0o755)
-    clone.write(f"{OUT}/built", "")
+    clone.write(f"{OUT}/built", clone.run("tools/source-sum", "--list", "program").out)
     assert clone.run("dnorm") == said("built\n"), "./dnorm, a built program"
     clone.write(source, text)
     runs("a built program that is older than a source", clone)
     shutil.rmtree(f"{clone.folder}/{OUT}")
     clone.write(OUT, "")
     runs("where no mark can be written", clone)
+
+
+# Puts a file back.
+BACK = "mv ../kept {}"
+# What is changed in a scratch repository: commands of bash in its folder, after each of which the released program was
+# not made from the sources; and those that undo it.
+CHANGES = {
+    "an edited source": ("echo x >> {}", "sed -i '$ d' {}"),
+    "an edit that keeps the size and the time": ("cp -p {} ../kept; tr o 0 < ../kept > {}; touch -r ../kept {}", BACK),
+    "another file by cp -p": ("cp -p {} ../kept; touch -d @9 ../other; cp -p ../other {}", BACK),
+    "another file by mv": ("cp -p {} ../kept; touch -d @9 ../other; mv ../other {}", BACK),
+    "a removed file": ("mv {} ../kept", BACK),
+    "a new file": ("touch -d @9 $(dirname {})/more", "rm $(dirname {})/more"),
+    "a new folder": ("mkdir $(dirname {})/new; touch $(dirname {})/new/more", "rm -r $(dirname {})/new"),
+    "another name": ("mv {} {}.old", "mv {}.old {}"),
+    "a new part of a crate": (
+        "mkdir crates/dnorm/specs; touch crates/dnorm/specs/Lib.antt",
+        "rm -r crates/dnorm/specs",
+    ),
+}
+DECIDING = ["dn_low/src/lib.rt", "dn_low/specs/State/Low.antt", "dn_low/proofs/low/Proof.antt", "dnorm/src/main.rt"]
+# A find that takes no list, as that of findutils before 4.9.
+OLD_FIND = '#!/bin/sh\ncase $* in *-files0-from*) exit 1 ;; esac\nexec /usr/bin/find "$@"\n'
+
+
+@pytest.mark.parametrize("what", CHANGES)
+def test_notices(clone: Clone, what: str) -> None:
+    """Which changes ./dnorm notices after a call that has checked all: those of each file that decides."""
+    change, back = CHANGES[what]
+    clone.write("bin/find", OLD_FIND)
+    os.chmod(f"{clone.folder}/bin/find", 0o755)
+    for name in DECIDING:
+        for path in [WITHOUT_RT, f"{clone.folder}/bin:{WITHOUT_RT}"]:
+            runs("before", clone, path)
+            for command, is_same in [(change, False), (back, True)]:
+                place = f"crates/{name}"
+                assert run(["bash", "-c", command.replace("{}", place)], cwd=clone.folder) == said(), command
+                (runs(f"{what} undone", clone, path) if is_same else stops(f"{what}: {place}", clone, NO_RT, path))
+
+
+@pytest.mark.parametrize("words", ["mv", "cp -r", "cp -a"])
+def test_moved(clone: Clone, words: str) -> None:
+    """A clone that is moved or copied, whose source then changes."""
+    runs("before", clone)
+    assert run([*words.split(), clone.folder, f"{clone.folder} at another place"]) == said()
+    clone.folder += " at another place"
+    runs(words, clone)
+    clone.write("crates/dnorm/src/main.rt", "// another\n")
+    stops(f"another source after {words}", clone, NO_RT)
+
+
+def test_read_only(clone: Clone, tested: str) -> None:
+    """A clone of another user, which this one may not write: without a mark, and with that of the other user."""
+    if os.geteuid():
+        pass_over("root, who runs a clone as another user")
+    own: dict[str, Any] = {"user": 65534, "group": 65534, "extra_groups": [], "cwd": "/", "env": {"PATH": WITHOUT_RT}}
+    with own_folder("clone") as place:
+        os.chmod(place, 0o755)
+        other = Clone(f"{place}/a clone", tested)
+        for _ in range(2):
+            assert run([f"{other.folder}/dnorm"], ROADS, **own) == said(ROADS_CANON), "as it was"
+            other.write("crates/dnorm/src/main.rt", "// another\n")
+            found = run([f"{other.folder}/dnorm"], ROADS, **own)
+            assert (found.out, found.status) == (b"", 125), "another source"
+            other.write("crates/dnorm/src/main.rt", "// a source\n")
+            runs("by the other user", other)
+
+
+def test_ways_to_call(clone: Clone) -> None:
+    """./dnorm by other paths, a link and PATH, also where CDPATH is set."""
+    os.symlink(f"{clone.folder}/dnorm", "linked")
+    os.mkdir("elsewhere")
+    below = os.path.basename(clone.folder)
+    own = {**os.environ, "PATH": f"{clone.folder}:{WITHOUT_RT}", "CDPATH": f"{os.getcwd()}/elsewhere"}
+    os.makedirs(f"elsewhere/{below}")
+    for words in [["./linked"], [f"./{below}/dnorm"], [f"{below}/dnorm"], ["dnorm"], ["bash", f"{below}/dnorm"]]:
+        for _ in range(2):
+            assert run(words, ROADS, env=own) == said(ROADS_CANON), words
+    assert run(["bash", "dnorm"], ROADS, cwd=clone.folder, env=own) == said(ROADS_CANON), "bash dnorm"
 
 
 def flip(path: str) -> None:
@@ -195,7 +283,10 @@ DAMAGES: dict[str, tuple[Callable[[Clone], None], str]] = {
         lambda clone: os.chmod(f"{clone.folder}/{AT}", 0o644),
         "dnorm: {}/released/x86_64/dnorm is not executable: chmod +x makes it so\n",
     ),
-    "no program": (lambda clone: os.remove(f"{clone.folder}/{AT}"), NO_RT),
+    "no program": (
+        lambda clone: os.remove(f"{clone.folder}/{AT}"),
+        NO_RT.replace("has the proved program 1.0", "lacks its program for x86_64: git restores it"),
+    ),
     "no buildinfo": (
         lambda clone: os.remove(f"{clone.released}/buildinfo"),
         NO_RT.replace("; released/ has the proved program 1.0", ""),
@@ -227,17 +318,21 @@ def test_packed(clone: Clone, tested: str) -> None:
     runs("what was unpacked may not run", clone)
     flip(f"{clone.folder}/{OUT}/released/dnorm-x86_64")
     runs("what was unpacked has changed", clone)
-    mark = os.stat(f"{clone.folder}/{OUT}/released/mark").st_mtime_ns
+    mark = os.stat(f"{clone.folder}/{OUT}/released/mark-x86_64").st_mtime_ns
     runs("a packed program, once more", clone)
-    same = os.stat(f"{clone.folder}/{OUT}/released/mark").st_mtime_ns == mark
+    same = os.stat(f"{clone.folder}/{OUT}/released/mark-x86_64").st_mtime_ns == mark
     assert same, "it is not unpacked again"
+    clone.write("crates/dnorm/src/main.rt", "// another\n")
+    stops("another source of a packed program", clone, NO_RT)
+    clone.write("crates/dnorm/src/main.rt", "// a source\n")
+    runs("its source as it was", clone)
     kept = bytes_of(f"{clone.folder}/{name}")
     clone.write(name, bytes([*kept[:5000], kept[5000] ^ 1, *kept[5001:]]))
     line = f"dnorm: {clone.folder}/{name} could not be unpacked to {clone.folder}/{OUT}/released/dnorm-x86_64\n"
     for changed in [bytes([*kept[:5000], kept[5000] ^ 1, *kept[5001:]]), kept[:-9]]:
         clone.write(name, changed)
         stops(f"{len(changed)} other bytes of a packed program", clone, line)
-    assert sorted(os.listdir(f"{clone.folder}/{OUT}/released")) == ["dnorm-x86_64", "mark"], "what is left of it"
+    assert sorted(os.listdir(f"{clone.folder}/{OUT}/released")) == ["dnorm-x86_64", "mark-x86_64"], "what is left of it"
 
 
 def test_kits(clone: Clone) -> None:
@@ -266,6 +361,13 @@ def test_without_python(clone: Clone) -> None:
         clone.link(f"bin/{name}", shutil.which(name, path=WITHOUT_RT) or "")
     path = f"{clone.folder}/bin"
     runs("without python3", clone, path)
+    # A call after one that has checked all runs little else than the program.
+    for name in {*USED.split()} - {"bash", "env", "find"}:
+        os.remove(f"{path}/{name}")
+    runs("by bash and find alone", clone, path)
+    for name in USED.split():
+        if not os.path.lexists(f"{path}/{name}"):
+            clone.link(f"bin/{name}", shutil.which(name, path=WITHOUT_RT) or "")
     clone.write("crates/dnorm/src/main.rt", "// another\n")
     line = "dnorm: no program is released for these sources; a proof needs python3 and the kit "
     stops("another source without python3", clone, f"{line}'{KIT}': see docs/PROVED.md\n", path)
@@ -286,6 +388,8 @@ def test_library(clone: Clone) -> None:
         kept = bytes_of(f"{clone.folder}/{name}")
         clone.write(name, kept + b"\n")
         assert clone.run("tools/c-library") == said("", NO_RT, 125), f"tools/c-library, another {name}"
+        line = "dnorm: no library is released for these sources: tools/c-library proves and builds it\n"
+        assert clone.run("tools/c-library", "--released") == said("", line, 125), f"--released, another {name}"
         assert clone.run("install", prefix).status == 125, f"./install, another {name}"
         clone.write(name, kept)
     flip(f"{clone.released}/x86_64/libdnorm.a.gz")
@@ -293,6 +397,75 @@ def test_library(clone: Clone) -> None:
     line = "dnorm: released/ has other bytes than SHA256SUMS says: git restores it\n"
     assert clone.run("tools/c-library") == said("", line, 125), "tools/c-library, another byte"
     assert clone.run("tools/c-library", "--proved") == said("", NO_RT, 125), "--proved without the kit"
+
+
+# What ./check calls, each of which stands for itself in a scratch copy: it notes its process, and passes one check. The
+# one that is asked to stay starts others, also detached ones and through one that has ended, and waits.
+CALLED = ["tools/lint", "tools/definitions", "bench/figures", "tools/kit.py", "tools/wrong-bodies", "tools/c-library"]
+CALLED += ["tools/build", "tools/released", "tools/third-party", "tests/run", "bin/rt"]
+STANDS = """#!/bin/bash
+echo $$ >> "$LOG"
+cd "$TMPDIR"
+case ${0##*/} in
+    "$STAYS")
+        sleep 1000 &
+        echo $! >> "$LOG"
+        (setsid bash -c 'echo $$ >> "$LOG"; touch "$LOG.one"; sleep 1000; :' & sleep 1000) &
+        bash -c '[ ! "$IGNORED" ] || trap "" TERM; echo $$ >> "$LOG"; touch "$LOG.other"; sleep 1000; :' &
+        until [[ -e $LOG.one && -e $LOG.other ]]; do sleep 0.1; done
+        touch "$LOG.ready"
+        wait
+        ;;
+    wrong-bodies) cat > /dev/null ;;
+esac
+echo '1 passed, 0 failed'
+"""
+ENDED = [
+    ("lint", signal.SIGTERM, ""),
+    ("rt", signal.SIGINT, ""),
+    ("build", signal.SIGHUP, ""),
+    ("run", signal.SIGTERM, ""),
+]
+
+
+@pytest.mark.parametrize("stays, number, ignored", [*ENDED, ("c-library", signal.SIGTERM, "yes")])
+def test_ended_check(folder: str, heeded: None, stays: str, number: int, ignored: str) -> None:
+    """./check that is ended by a signal, which it alone gets, ends all that it has started, and leaves no file."""
+    shutil.copy(f"{ROOT}/check", "check")
+    os.mkdir("temporary")
+    for it in CALLED:
+        os.makedirs(os.path.dirname(it), exist_ok=True)
+        write(it, STANDS)
+        os.chmod(it, 0o755)
+    os.makedirs("crates/dnorm/out")
+    own = {"PATH": f"{folder}/bin:{os.environ['PATH']}", "STAYS": stays, "LOG": f"{folder}/log", "IGNORED": ignored}
+    own |= {"TMPDIR": f"{folder}/temporary", "RT_JOBS": "1", "CI": ""}
+    process = subprocess.Popen(["./check"], env={**os.environ, **own}, stdout=subprocess.DEVNULL)
+    try:
+        while process.poll() is None and not os.path.exists("log.ready"):
+            time.sleep(0.05)
+        process.send_signal(number)
+        assert process.wait(LIMIT) == -number
+        assert [it for it in text_of("log").split() if os.path.exists(f"/proc/{it}/exe")] == []
+        assert os.listdir("temporary") == []
+    finally:
+        for it in [str(process.pid), *text_of("log").split()]:
+            with contextlib.suppress(ProcessLookupError):
+                os.kill(int(it), signal.SIGKILL)
+
+
+def test_left_out(tested: str, folder: str) -> None:
+    """What tests/run says of tests that are left out, and what mends it."""
+    os.mkdir("bin")
+    for it in ["python3", "env", "bash", "cc"]:
+        os.symlink(shutil.which(it) or "", f"bin/{it}")
+    words = [f"{ROOT}/tests/run", tested, "--", f"{ROOT}/tests/program/test_completions.py", "-k"]
+    environment = {**os.environ, "PATH": f"{folder}/bin", "PYTEST_XDIST_AUTO_NUM_WORKERS": "1", "CI": ""}
+    found = run([*words, "test_zsh or test_bash_loads"], env=environment)
+    told = found.out.decode().splitlines()[-3:]
+    zsh = "left out, since zsh is missing: tests/program/test_completions.py::test_zsh"
+    mends = "1 case is left out, which needs tools that are missing: tools/setup installs them, except the kit"
+    assert (told, found.status) == ([zsh, mends, "3 passed, 0 failed"], 0), found
 
 
 def linked_here(clone: Clone) -> str:

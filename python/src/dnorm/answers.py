@@ -2,12 +2,18 @@
 
 from __future__ import annotations
 
+import html
 import re
+from collections.abc import Iterable, Sequence
 from dataclasses import dataclass
+from itertools import islice
 from typing import TYPE_CHECKING, Literal, NamedTuple, Optional, Union, cast
 
 KIND, NUMBER = "min|max|sp|ss|p2p|co", "-?[0-9]+"
-CHECKED = re.compile(rf"accepted ({KIND})\n(?:fits (ss|p2p|co)\n)?forms (1 2|1|2|none)\n")
+# A canonical form, and what `check` prints of the forms of a text.
+Form = Literal[1, 2]
+FORMS: dict[str, tuple[Form, ...]] = {"none": (), "1": (1,), "2": (2,), "1 2": (1, 2)}
+CHECKED = re.compile(rf"accepted ({KIND})\n(?:fits (ss|p2p|co)\n)?forms ({'|'.join(FORMS)})\n")
 # The lines of `show` for a text of each kind, up to those of the pairs, and the line of a pair. N stands for a number.
 SHOWN = {
     "min": "kind min\nnodes N\nlines N\nsupplies N\npairs N\n",
@@ -36,6 +42,17 @@ DIFFERENCES = {
     "item": "differ item PLACE",
     "point": "differ point NODE",
 }
+# How many rows a notebook shows.
+ROWS = 10
+
+
+def table(it: object, names: Sequence[str], rows: Iterable[Sequence[object]]) -> str:
+    """Returns what a notebook shows of an answer or an instance: how it prints, and the first rows as a table."""
+    first = [names, *islice(rows, ROWS + 1)]
+    if len(first) > ROWS + 1:
+        first[-1] = ["..."] * len(names)
+    lines = (f"<tr>{''.join(f'<td>{html.escape(str(cell))}</td>' for cell in row)}</tr>" for row in first)
+    return f"<p>{html.escape(repr(it))}</p><table>{''.join(lines)}</table>"
 
 
 @dataclass(frozen=True)
@@ -47,7 +64,7 @@ class Checked:
 
     kind: str
     fits: Optional[str]
-    forms: tuple[int, ...]
+    forms: tuple[Form, ...]
 
 
 class LengthPair(NamedTuple):
@@ -103,6 +120,10 @@ class Shown:
         if self.nodes is not None:
             found.append(f"{len(self.pairs)} pairs")
         return f"<dnorm.Shown: {', '.join(found)}>"
+
+    def _repr_html_(self) -> str:
+        """Returns what a notebook shows: the first pairs as a table."""
+        return table(self, PAIR_TYPES[self.kind]._fields if self.kind in PAIR_TYPES else (), self.pairs)
 
 
 @dataclass(frozen=True)
@@ -230,7 +251,7 @@ def checked(out: str) -> Checked:
     if not found:
         raise ValueError(out)
     kind, fits, forms = found.groups()
-    return Checked(kind, fits, () if forms == "none" else tuple(map(int, forms.split())))
+    return Checked(kind, fits, FORMS[forms])
 
 
 def shown(out: str) -> Shown:

@@ -7,7 +7,7 @@ import warnings
 from collections.abc import Callable, Iterator, Sequence
 from typing import Optional, TypeVar, Union
 
-from .answers import AnyDifference, Checked, Same, Shown, checked, compared, shown
+from .answers import AnyDifference, Checked, Form, Same, Shown, checked, compared, shown
 from .files import File, Sink, Target, enough_memory, name_of, sink_of
 from .instances import Instance
 from .limits import Limit
@@ -35,7 +35,7 @@ def check(
     return found
 
 
-def canon(file: File, form: int = 1, *, program: Program = None, timeout: Optional[float] = None) -> bytes:
+def canon(file: File, form: Form = 1, *, program: Program = None, timeout: Optional[float] = None) -> bytes:
     """Returns the canonical text of a text. `form` is 1 or 2, and matters only for `min`."""
     parts: list[bytes] = []
     limit = Limit(timeout, name_of(file))
@@ -45,7 +45,7 @@ def canon(file: File, form: int = 1, *, program: Program = None, timeout: Option
 
 
 def canon_to(
-    file: File, target: Target, form: int = 1, *, program: Program = None, timeout: Optional[float] = None
+    file: File, target: Target, form: Form = 1, *, program: Program = None, timeout: Optional[float] = None
 ) -> None:
     """Writes the canonical text of a text to a path or a binary stream, without keeping it in memory.
 
@@ -57,7 +57,7 @@ def canon_to(
         canon_into(sink, file, form, program, Limit(timeout, name_of(file)))
 
 
-def checksum(file: File, form: int = 1, *, program: Program = None, timeout: Optional[float] = None) -> str:
+def checksum(file: File, form: Form = 1, *, program: Program = None, timeout: Optional[float] = None) -> str:
     """Returns the SHA-256 checksum of the canonical text, in hexadecimal digits. Texts that pose the same problem have
     the same checksum."""
     found = hashlib.sha256()

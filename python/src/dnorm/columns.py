@@ -5,7 +5,7 @@ from __future__ import annotations
 import importlib
 import operator
 from array import array
-from collections.abc import Iterable, Iterator
+from collections.abc import Callable, Iterable, Iterator
 from typing import TYPE_CHECKING, Any, Protocol
 
 if TYPE_CHECKING:
@@ -83,33 +83,55 @@ class Growing:
         return column(self._numbers) if self._np is None else read_only(self._numbers[: self._count])
 
 
-def frozen(name: str, given: object) -> Any:
-    """Returns a column of the same numbers that cannot be written: a copy of what can. Raises TypeError for what is not
-    an array of 64 signed bits; errors call it by this name."""
+class Own:
+    """A column whose memory nothing else writes, so that an instance may keep it without a copy."""
+
+    def __init__(self, numbers: Any) -> None:
+        self.numbers = numbers
+
+
+def frozen(name: str, given: Any) -> Any:
+    """Returns a column of the same numbers that cannot be written: a copy, except of an `Own`. An array that cannot be
+    written may be a view of one that can. Raises TypeError for what is not an array of 64 signed bits; errors call it
+    by this name."""
     np = numpy_here()
-    if isinstance(given, array) and given.typecode == "q":
-        given = memoryview(given)
-    if isinstance(given, memoryview) and given.format == "q" and given.ndim == 1:
-        numbers = given if given.readonly else memoryview(array("q", given)).toreadonly()
-        return numbers if np is None else np.asarray(numbers).view(np.int64)
-    if np is not None and isinstance(given, np.ndarray) and given.dtype == np.int64 and given.ndim == 1:
-        return read_only(given.copy() if given.flags.writeable else given.view())
-    kind = f"{given.dtype} array" if hasattr(given, "dtype") else type(given).__name__
+    if isinstance(given, Own):
+        return given.numbers
+    if isinstance(given, (array, memoryview)) and memoryview(given).format == "q" and memoryview(given).ndim == 1:
+        return column(array("q", given))
+    if is_array(np, given) and given.dtype == np.int64:
+        return read_only(np.array(given))
+    kind = f"{type(given).__name__} of {given.dtype}" if hasattr(given, "dtype") else type(given).__name__
     raise TypeError(f"{name} is an array of 64 signed bits, and not a {kind}: from_arrays takes other numbers, too")
 
 
-def column_of(name: str, given: Iterable[Any]) -> Any:
+def is_array(np: Any, given: Any) -> bool:
+    """Whether this is an array of numpy of one dimension in which no numbers are masked."""
+    is_plain = np is not None and isinstance(given, np.ndarray) and not hasattr(given, "mask")
+    return is_plain and given.ndim == 1
+
+
+def column_of(name: str, given: Any) -> Any:
     """Returns a column of its own with these numbers. Raises TypeError if one is not whole, and OverflowError if one
     does not fit."""
     np = numpy_here()
-    if np is not None and isinstance(given, np.ndarray) and given.dtype.kind in "iu" and given.ndim == 1:
+    if is_array(np, given) and given.dtype.kind in "iu":
         if given.size and int(given.max()) > MOST:
             raise OverflowError(f"{name} has {given.max()}, which is above 2^63-1")
-        return read_only(given.astype(np.int64))
+        return read_only(np.array(given, np.int64))
+    return column(numbers_of(given, lambda place: f"{name}[{place}]"))
+
+
+def numbers_of(given: Iterable[Any], name_at: Callable[[int], str]) -> array[int]:
+    """Returns an array of these numbers. Raises TypeError if one is not whole, and OverflowError if one does not fit;
+    errors call it by the name that `name_at` returns for its place."""
+    found = array("q")
     try:
-        return column(array("q", map(operator.index, given)))
+        found.extend(map(operator.index, given))
     except (TypeError, OverflowError) as error:
-        raise type(error)(f"{name}: {error}") from None
+        # The numbers before this one are in the array.
+        raise type(error)(f"{name_at(len(found))}: {error}") from None
+    return found
 
 
 def least_and_greatest(numbers: Any) -> tuple[int, int]:

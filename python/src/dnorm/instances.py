@@ -2,7 +2,6 @@
 
 from __future__ import annotations
 
-import html
 import importlib
 import operator
 import re
@@ -10,16 +9,53 @@ from array import array
 from collections.abc import Iterator, Mapping
 from dataclasses import dataclass, fields
 from itertools import islice
-from typing import Any, ClassVar, Literal, NoReturn, TypeVar, Union, overload
+from typing import TYPE_CHECKING, Any, ClassVar, Generic, Literal, NoReturn, TypeVar, Union, overload
 
-from .columns import LEAST, MOST, Column, are_same, column, column_of, frozen, least_and_greatest
+from .answers import table
+from .columns import LEAST, MOST, Column, Own, are_same, column, column_of, frozen, least_and_greatest
+
+if TYPE_CHECKING:
+    from networkx import DiGraph, MultiDiGraph
+    from pandas import DataFrame
+    from scipy.sparse import csr_matrix
+    from typing_extensions import TypeAlias
+
+    # The nodes are numbers.
+    Network: TypeAlias = "DiGraph[int]"
+    MultiNetwork: TypeAlias = "MultiDiGraph[int]"
+else:
+    Network = MultiNetwork = DataFrame = csr_matrix = Any
 
 # The problem line of a canonical text.
 PROBLEM = re.compile(rb"p (?:(min|max|sp) ([0-9]+)|aux sp (ss|p2p|co)) ([0-9]+)\n")
 # The letter of the counted lines of each kind, and how many numbers follow it.
 COUNTED = {"min": (b"a", 5), "max": (b"a", 3), "sp": (b"a", 3), "ss": (b"s", 1), "p2p": (b"q", 2), "co": (b"v", 3)}
-# How many rows are made of columns at a time, how many lines of text, and how many rows a notebook shows.
-STEP, LINES, SHOWN = 1 << 16, 1 << 12, 10
+# How many rows are made of columns at a time, and how many lines of text.
+STEP, LINES = 1 << 16, 1 << 12
+
+
+Row = TypeVar("Row", bound=tuple[int, ...], covariant=True)
+
+
+class Rows(Generic[Row]):
+    """What the rows of an instance are."""
+
+    if TYPE_CHECKING:
+
+        def __iter__(self) -> Iterator[Row]:
+            ...
+
+        def rows(self) -> Iterator[Row]:
+            ...
+
+
+class Arcs(Rows[Row]):
+    """What the arcs of a graph are, which are its rows."""
+
+    if TYPE_CHECKING:
+
+        def arcs(self) -> Iterator[Row]:
+            ...
 
 
 class Flows(dict[int, int]):
@@ -83,11 +119,7 @@ class Instance:
 
     def _repr_html_(self) -> str:
         """Returns what a notebook shows: the first rows as a table."""
-        rows: list[tuple[object, ...]] = [tuple(column_names(type(self))), *islice(self.rows(), SHOWN)]
-        if len(self) > SHOWN:
-            rows.append(("...",) * len(rows[0]))
-        table = "".join(f"<tr>{''.join(f'<td>{it}</td>' for it in row)}</tr>" for row in rows)
-        return f"<p>{html.escape(repr(self))}</p><table>{table}</table>"
+        return table(self, column_names(type(self)), self.rows())
 
     def __iter__(self) -> Iterator[tuple[int, ...]]:
         return self.rows()
@@ -114,10 +146,11 @@ class Instance:
         """Yields the node lines."""
         return iter(())
 
-    def to_pandas(self) -> Any:
+    def to_pandas(self) -> DataFrame:
         """Returns a `pandas.DataFrame` with the columns, and a row for each arc or item."""
         numpy, pandas = importlib.import_module("numpy"), importlib.import_module("pandas")
-        return pandas.DataFrame({it: numpy.asarray(getattr(self, it)) for it in column_names(type(self))})
+        made: DataFrame = pandas.DataFrame({it: numpy.array(getattr(self, it)) for it in column_names(type(self))})
+        return made
 
 
 Made = TypeVar("Made", bound=Instance)
@@ -163,12 +196,11 @@ class Graph(Instance):
         """Yields the arcs: tail, head, and the length, the capacity, or LOW, CAP and COST."""
         return self.rows()
 
-    def without_parallel(self, made: Any, count: int) -> Any:
-        """Returns what was made of the arcs, if it has as many of them."""
+    def check_parallel(self, count: int) -> None:
+        """Raises ValueError if what was made of the arcs has fewer of them, or an arc has an end that is no node."""
         self.check_ends()
         if count != len(self):
             raise ValueError("arcs are parallel: dnorm.read of the text that dnorm.write makes merges them")
-        return made
 
     def check_ends(self) -> None:
         """Raises ValueError if an arc has an end that is no node."""
@@ -180,29 +212,30 @@ class Graph(Instance):
 
 
 @dataclass(frozen=True, eq=False, repr=False)
-class Sp(Graph):
+class Sp(Arcs[tuple[int, int, int]], Graph):
     """An `sp` graph: `lengths[i]` is the length of arc i. If it was read, an ordered pair of nodes has at most one
     arc."""
 
     kind: ClassVar[Literal["sp"]] = "sp"
     lengths: Column
 
-    def to_networkx(self) -> Any:
+    def to_networkx(self) -> Network:
         """Returns a `networkx.DiGraph`, with the lengths as the attribute `weight`. Raises ValueError if arcs are
         parallel, which no instance has that was read."""
-        graph = importlib.import_module("networkx").DiGraph()
+        graph: Network = importlib.import_module("networkx").DiGraph()
         graph.add_nodes_from(range(1, self.nodes + 1))
         graph.add_weighted_edges_from(self.arcs())
-        return self.without_parallel(graph, graph.number_of_edges())
+        self.check_parallel(graph.number_of_edges())
+        return graph
 
-    def to_scipy(self) -> Any:
+    def to_scipy(self) -> csr_matrix:
         """Returns a `scipy.sparse.csr_matrix` of the lengths. Node i has row and column i - 1. Arcs of length 0 are
         stored entries, which `scipy.sparse.csgraph` takes for arcs. Raises ValueError if arcs are parallel."""
         return matrix(self, self.lengths)
 
 
 @dataclass(frozen=True, eq=False, repr=False)
-class Max(Graph):
+class Max(Arcs[tuple[int, int, int]], Graph):
     """A `max` problem: `capacities[i]` is the capacity of arc i. If it was read, an ordered pair of nodes has at most
     one arc."""
 
@@ -215,16 +248,17 @@ class Max(Graph):
         yield f"n {self.source} s\n"
         yield f"n {self.sink} t\n"
 
-    def to_networkx(self) -> Any:
+    def to_networkx(self) -> Network:
         """Returns a `networkx.DiGraph`, whose edges have the attribute `capacity`. Its attributes
         `graph["source"]` and `graph["sink"]` are the terminals. Raises ValueError if arcs are parallel, which no
         instance has that was read."""
-        graph = importlib.import_module("networkx").DiGraph(source=self.source, sink=self.sink)
+        graph: Network = importlib.import_module("networkx").DiGraph(source=self.source, sink=self.sink)
         graph.add_nodes_from(range(1, self.nodes + 1))
         graph.add_edges_from((tail, head, {"capacity": capacity}) for tail, head, capacity in self.arcs())
-        return self.without_parallel(graph, graph.number_of_edges())
+        self.check_parallel(graph.number_of_edges())
+        return graph
 
-    def to_scipy(self) -> Any:
+    def to_scipy(self) -> csr_matrix:
         """Returns a `scipy.sparse.csr_matrix` of the capacities. Node i has row and column i - 1. Where
         `scipy.sparse.csgraph.maximum_flow` takes only 32 bits, convert it: `.astype("int32")`. Raises ValueError if
         arcs are parallel."""
@@ -232,7 +266,7 @@ class Max(Graph):
 
 
 @dataclass(frozen=True, eq=False, repr=False)
-class Min(Graph):
+class Min(Arcs[tuple[int, int, int, int, int]], Graph):
     """A `min` problem: `lows[i]`, `caps[i]` and `costs[i]` are LOW, CAP and COST of arc i. `supplies` has the flow of
     each node whose flow is not 0: above 0 for a supply, and below 0 for a demand."""
 
@@ -259,7 +293,7 @@ class Min(Graph):
         found: Column = column(flows)
         return found
 
-    def to_networkx(self) -> Any:
+    def to_networkx(self) -> MultiNetwork:
         """Returns a `networkx.MultiDiGraph` for solvers that know no lower bounds, as `networkx.network_simplex`.
 
         The lower bounds are sent beforehand. An edge has the attributes `weight`, its COST; `capacity`, its CAP minus
@@ -268,7 +302,7 @@ class Min(Graph):
         finds."""
         self.check_ends()
         fixed = sum(low * cost for _, _, low, _, cost in self.arcs())
-        graph = importlib.import_module("networkx").MultiDiGraph(cost=fixed)
+        graph: MultiNetwork = importlib.import_module("networkx").MultiDiGraph(cost=fixed)
         demands = dict.fromkeys(range(1, self.nodes + 1), 0)
         demands.update((node, -flow) for node, flow in self.supplies.items())
         for tail, head, low, _, _ in self.arcs():
@@ -281,7 +315,7 @@ class Min(Graph):
         )
         return graph
 
-    def to_scipy(self) -> tuple[Any, Any]:
+    def to_scipy(self) -> tuple[csr_matrix, Column]:
         """Returns the incidence matrix of the arcs, a `scipy.sparse.csr_matrix`, and the supplies, a numpy array. Row
         i - 1 of both is that of node i. The column of an arc has 1 in the row of its tail and -1 in that of its head,
         or neither if they are the same node. So flows x along the arcs are a solution if the matrix times x is the
@@ -291,13 +325,13 @@ class Min(Graph):
         rows = numpy.concatenate([numpy.asarray(self.tails) - 1, numpy.asarray(self.heads) - 1])
         columns = numpy.tile(numpy.arange(len(self)), 2)
         signs = numpy.repeat(numpy.array([1, -1]), len(self))
-        incidence = sparse.csr_matrix((signs, (rows, columns)), shape=(self.nodes, len(self)))
+        incidence: csr_matrix = sparse.csr_matrix((signs, (rows, columns)), shape=(self.nodes, len(self)))
         incidence.eliminate_zeros()
         return incidence, numpy.asarray(self.supply_column())
 
 
 @dataclass(frozen=True, eq=False, repr=False)
-class Ss(Instance):
+class Ss(Rows[tuple[int]], Instance):
     """An `ss` companion: the sources, in the order of the text."""
 
     kind: ClassVar[Literal["ss"]] = "ss"
@@ -305,7 +339,7 @@ class Ss(Instance):
 
 
 @dataclass(frozen=True, eq=False, repr=False)
-class P2p(Instance):
+class P2p(Rows[tuple[int, int]], Instance):
     """A `p2p` companion: query i is from `sources[i]` to `targets[i]`, in the order of the text."""
 
     kind: ClassVar[Literal["p2p"]] = "p2p"
@@ -314,7 +348,7 @@ class P2p(Instance):
 
 
 @dataclass(frozen=True, eq=False, repr=False)
-class Co(Instance):
+class Co(Rows[tuple[int, int, int]], Instance):
     """A `co` companion: node `ids[i]` is at (`xs[i]`, `ys[i]`). If it was read, the IDs rise."""
 
     kind: ClassVar[Literal["co"]] = "co"
@@ -323,13 +357,14 @@ class Co(Instance):
     ys: Column
 
 
-def matrix(graph: Graph, values: Column) -> Any:
+def matrix(graph: Graph, values: Column) -> csr_matrix:
     """Returns a matrix with a value for each arc."""
     numpy, sparse = importlib.import_module("numpy"), importlib.import_module("scipy.sparse")
     graph.check_ends()
     tails, heads, data = (numpy.asarray(it, dtype=numpy.int64) for it in (graph.tails, graph.heads, values))
-    found = sparse.csr_matrix((data, (tails - 1, heads - 1)), shape=(graph.nodes, graph.nodes))
-    return graph.without_parallel(found, found.nnz)
+    found: csr_matrix = sparse.csr_matrix((data, (tails - 1, heads - 1)), shape=(graph.nodes, graph.nodes))
+    graph.check_parallel(found.nnz)
+    return found
 
 
 AnyInstance = Union[Sp, Max, Min, Ss, P2p, Co]
@@ -398,7 +433,7 @@ def from_arrays(kind: Any, **values: Any) -> Any:
     if made is Min:
         given.setdefault("lows", column(array("q", bytes(8 * len(given.get("tails", ()))))))
         given["supplies"] = flows_of(given.get("supplies", {}), nodes)
-    return made(**given)
+    return made(**{name: Own(it) if name in names else it for name, it in given.items()})
 
 
 def class_of(kind: object) -> Any:
@@ -417,7 +452,7 @@ def flows_of(supplies: Any, nodes: int) -> dict[int, int]:
         if len(flows) != nodes:
             raise ValueError(f"supplies has {len(flows)} numbers, and there are {nodes} nodes")
         return {node: flow for node, flow in enumerate(flows, 1) if flow}
-    found = {whole("supplies", node): whole("supplies", flow) for node, flow in supplies.items()}
+    found = {whole(f"node {it!r} of supplies", it): whole(f"supplies[{it!r}]", flow) for it, flow in supplies.items()}
     for node in found:
         if not 1 <= node <= nodes:
             raise ValueError(f"supplies has node {node}, which is none of 1 to {nodes}: nodes count from 1")

@@ -3,6 +3,7 @@
 from __future__ import annotations
 
 import contextlib
+import numbers
 import os
 import select
 import signal
@@ -10,12 +11,14 @@ import subprocess
 import threading
 import time
 from collections.abc import Callable, Iterator
-from typing import BinaryIO, TypeVar
+from typing import Any, BinaryIO, TypeVar
 
 from .errors import Memory, TimedOut
 
 Result = TypeVar("Result")
 Other = TypeVar("Other")
+# The longest limit, some 30 years, which all calls of the system take; and the longest wait of one call of poll.
+LONGEST, WAIT = 10**9, 10**6
 
 
 class Lease:
@@ -38,12 +41,21 @@ class Lease:
             self._free()
 
 
+def check_seconds(seconds: Any) -> None:
+    """Raises TypeError for what is no number of seconds, and ValueError for one that no clock reaches."""
+    is_number = isinstance(seconds, numbers.Real)
+    if not is_number:
+        raise TypeError(f"timeout is a number of seconds, and not {type(seconds).__name__}")
+    if not 0 <= seconds <= LONGEST:
+        raise ValueError(f"timeout is at least 0 and at most {LONGEST} seconds, and not {seconds}")
+
+
 class Limit:
     """So many seconds from now, or no limit. `name` is what the error of a call calls its file."""
 
     def __init__(self, seconds: float | None, name: str) -> None:
-        if seconds is not None and seconds < 0:
-            raise ValueError(f"timeout is at least 0, and not {seconds}")
+        if seconds is not None:
+            check_seconds(seconds)
         self.seconds, self.name = seconds, name
         self._end = None if seconds is None else time.monotonic() + seconds
 
@@ -154,10 +166,10 @@ class Timed:
 
     def wait(self) -> None:
         """Waits until reading does not wait."""
-        left = self._limit.left()
         poll = select.poll()
         poll.register(self._file, select.POLLIN)
-        poll.poll(None if left is None else left * 1000)
+        while (left := self._limit.left()) is not None and not poll.poll(min(WAIT, left) * 1000):
+            pass
         self._limit.left()
 
     def read(self, size: int, /) -> bytes:

@@ -2,15 +2,46 @@
 
 from __future__ import annotations
 
-import operator
-from collections.abc import Callable
+from array import array
+from collections.abc import Callable, Iterable
 from typing import Any, Literal, Optional, TypeVar, Union, overload
 
-from .instances import Graph, Max, Min, Sp, class_of, from_arrays
+from .columns import numbers_of
+from .instances import Graph, Max, Min, Sp, class_of, from_arrays, whole
 
 AnyGraph = TypeVar("AnyGraph", bound=Graph)
 # The name of an attribute of edges, a function of tail, head and attributes, or None, as networkx takes them.
 Weight = Union[str, Callable[[Any, Any, dict[str, Any]], Any], None]
+
+
+@overload
+def from_networkx(kind: Literal["sp"], graph: Any, *, weight: Weight = ...) -> Sp:
+    ...
+
+
+@overload
+def from_networkx(
+    kind: Literal["max"],
+    graph: Any,
+    *,
+    capacity: str = ...,
+    source: Optional[int] = ...,
+    sink: Optional[int] = ...,
+) -> Max:
+    ...
+
+
+@overload
+def from_networkx(
+    kind: Literal["min"],
+    graph: Any,
+    *,
+    weight: Weight = ...,
+    capacity: str = ...,
+    low: str = ...,
+    demand: str = ...,
+) -> Min:
+    ...
 
 
 @overload
@@ -25,21 +56,6 @@ def from_networkx(
     source: Optional[int] = ...,
     sink: Optional[int] = ...,
 ) -> AnyGraph:
-    ...
-
-
-@overload
-def from_networkx(
-    kind: Literal["sp", "max", "min"],
-    graph: Any,
-    *,
-    weight: Weight = ...,
-    capacity: str = ...,
-    low: str = ...,
-    demand: str = ...,
-    source: Optional[int] = ...,
-    sink: Optional[int] = ...,
-) -> Union[Sp, Max, Min]:
     ...
 
 
@@ -65,23 +81,32 @@ def from_networkx(
     lengths are 1, or all costs 0.
 
     Raises ValueError for other nodes, undirected edges, edges without a weight, and edges without a capacity, whose
-    flow has no bound; and TypeError for numbers that are not whole."""
+    flow has no bound; TypeError for numbers that are not whole, and for terminals of another class; and OverflowError
+    for numbers that do not fit into 64 bits."""
     made = class_of(kind)
     if made not in (Sp, Max, Min):
         raise TypeError(f"from_networkx makes Sp, Max and Min, and not {made.__name__}")
-    count = count_of_nodes(graph)
+    ends = {"source": source, "sink": sink}
+    check_terminals(made, ends)
+    values: dict[str, Any] = {"nodes": count_of_nodes(graph)}
     edges = list(graph.edges(data=True))
-    values: dict[str, Any] = {"nodes": count}
     values.update(tails=[tail for tail, _, _ in edges], heads=[head for _, head, _ in edges])
     if made is Sp:
         return from_arrays(Sp, lengths=weights_of(edges, weight, 1), **values)
-    capacities = [capacity_of(tail, head, data, capacity) for tail, head, data in edges]
+    capacities = of_edges(capacity, edges, attributes_of(edges, capacity))
     if made is Max:
-        ends = {"source": source, "sink": sink}
         return from_arrays(Max, capacities=capacities, **terminals_of(graph, ends), **values)
-    lows = [operator.index(data.get(low, 0)) for _, _, data in edges]
+    lows = of_edges(low, edges, [data.get(low, 0) for _, _, data in edges])
+    caps = of_edges(f"{low} with the {capacity}", edges, [it + more for it, more in zip(lows, capacities)])
     values.update(supplies=supplies_of(graph, lows, demand), costs=weights_of(edges, weight, 0))
-    return from_arrays(Min, lows=lows, caps=[it + more for it, more in zip(lows, capacities)], **values)
+    return from_arrays(Min, lows=lows, caps=caps, **values)
+
+
+def check_terminals(made: type[Graph], ends: dict[str, Optional[int]]) -> None:
+    """Raises TypeError if terminals are given to a class that has none."""
+    given = [name for name, it in ends.items() if it is not None]
+    if given and made is not Max:
+        raise TypeError(f"{made.__name__} takes no {' and no '.join(given)}")
 
 
 def count_of_nodes(graph: Any) -> int:
@@ -97,24 +122,32 @@ def count_of_nodes(graph: Any) -> int:
 Edges = list[tuple[Any, Any, dict[str, Any]]]
 
 
-def weights_of(edges: Edges, weight: Weight, default: int) -> list[Any]:
+def of_edges(what: str, edges: Edges, numbers: list[Any]) -> array[int]:
+    """Returns what edges have, a number each. Errors name the edge, and call its number by this name."""
+
+    def name_at(place: int) -> str:
+        tail, head, _ = edges[place]
+        return f"the {what} of the edge from {tail} to {head} is {numbers[place]!r}"
+
+    return numbers_of(numbers, name_at)
+
+
+def weights_of(edges: Edges, weight: Weight, default: int) -> array[int]:
     """Returns the weights of edges. Without a weight, each is the default."""
     if weight is None:
-        return [default] * len(edges)
+        return array("q", [default]) * len(edges)
     if callable(weight):
-        return [weight(*it) for it in edges]
+        return of_edges("weight", edges, [weight(*it) for it in edges])
+    hint = f": weight=None gives each edge {default}, and weight=NAME takes another attribute"
+    return of_edges(weight, edges, attributes_of(edges, weight, hint))
+
+
+def attributes_of(edges: Edges, name: str, hint: str = "") -> list[Any]:
+    """Returns an attribute of edges. The hint ends the message of the error if an edge lacks the attribute."""
     for tail, head, data in edges:
-        if weight not in data:
-            hint = f"weight=None gives each edge {default}, and weight=NAME takes another attribute"
-            raise ValueError(f"the edge from {tail} to {head} has no {weight}: {hint}")
-    return [data[weight] for _, _, data in edges]
-
-
-def capacity_of(tail: int, head: int, data: dict[str, Any], capacity: str) -> int:
-    """Returns the capacity of an edge."""
-    if capacity not in data:
-        raise ValueError(f"the edge from {tail} to {head} has no {capacity}")
-    return operator.index(data[capacity])
+        if name not in data:
+            raise ValueError(f"the edge from {tail} to {head} has no {name}{hint}")
+    return [data[name] for _, _, data in edges]
 
 
 def terminals_of(graph: Any, ends: dict[str, Optional[int]]) -> dict[str, int]:
@@ -125,9 +158,9 @@ def terminals_of(graph: Any, ends: dict[str, Optional[int]]) -> dict[str, int]:
     return {it: graph.graph[it] if node is None else node for it, node in ends.items()}
 
 
-def supplies_of(graph: Any, lows: list[int], demand: str) -> dict[int, int]:
+def supplies_of(graph: Any, lows: Iterable[int], demand: str) -> dict[int, int]:
     """Returns the flows of the nodes before the lower bounds were sent, without those that are 0."""
-    flows = {node: -operator.index(number) for node, number in graph.nodes(data=demand, default=0)}
+    flows = {node: -whole(f"the {demand} of node {node}", it) for node, it in graph.nodes(data=demand, default=0)}
     for (tail, head), low in zip(graph.edges(), lows):
         flows[tail] += low
         flows[head] -= low
@@ -140,29 +173,46 @@ def from_scipy(kind: Union[Literal["sp"], type[Sp]], matrix: Any) -> Sp:
 
 
 @overload
-def from_scipy(kind: Union[Literal["max"], type[Max]], matrix: Any, source: int, sink: int) -> Max:
+def from_scipy(kind: Union[Literal["max"], type[Max]], matrix: Any, *, source: int, sink: int) -> Max:
     ...
 
 
-def from_scipy(kind: Any, matrix: Any, source: Optional[int] = None, sink: Optional[int] = None) -> Any:
+def from_scipy(kind: Any, matrix: Any, *, source: Optional[int] = None, sink: Optional[int] = None) -> Any:
     """Returns the `Sp` or `Max` that a sparse matrix of scipy is: the entry in row i and column j is the length or the
-    capacity of the arc from node i + 1 to node j + 1, also if it is stored and 0. `source` and `sink` are rows, as
-    `scipy.sparse.csgraph.maximum_flow` takes them; those of the instance are greater by 1.
+    capacity of the arc from node i + 1 to node j + 1, also if it is stored and 0. `source` and `sink` are nodes, as in
+    `from_arrays`: they are greater by 1 than the rows that `scipy.sparse.csgraph.maximum_flow` takes.
 
-    Raises ValueError for a matrix that is not square, and TypeError for numbers that are not whole: `.astype(int)`
-    rounds them towards 0."""
+    Raises TypeError for what is no sparse matrix, for numbers that are not whole, and for terminals of `Sp`; ValueError
+    for a matrix that is not square, or has two entries at one place; and OverflowError for numbers that do not fit into
+    64 bits."""
     made = class_of(kind)
     if made not in (Sp, Max):
         raise TypeError(f"from_scipy makes Sp and Max, and not {made.__name__}")
-    entries = matrix.tocoo()
-    nodes, columns = entries.shape
-    if nodes != columns:
-        raise ValueError(f"the matrix has {nodes} rows and {columns} columns")
+    check_terminals(made, {"source": source, "sink": sink})
+    entries = entries_of(matrix)
     # The indices may have 32 bits, which hold one more than the last one.
-    values = {"nodes": nodes, "tails": entries.row + 1, "heads": entries.col + 1}
+    values = {"nodes": entries.shape[0], "tails": entries.row + 1, "heads": entries.col + 1}
     if made is Sp:
         return from_arrays(Sp, lengths=entries.data, **values)
     if source is None or sink is None:
-        raise TypeError("source and sink are missing: the rows of the terminals")
-    ends = {"source": operator.index(source) + 1, "sink": operator.index(sink) + 1}
-    return from_arrays(Max, capacities=entries.data, **ends, **values)
+        raise TypeError("source and sink are missing: the nodes of the terminals, which count from 1")
+    return from_arrays(Max, capacities=entries.data, source=source, sink=sink, **values)
+
+
+def entries_of(matrix: Any) -> Any:
+    """Returns a sparse matrix as its entries, if each is a whole number with a place of its own."""
+    if not hasattr(matrix, "tocoo"):
+        hint = "scipy.sparse.csr_matrix(..) makes one, without the entries that are 0"
+        raise TypeError(f"a sparse matrix is wanted, and not {type(matrix).__name__}: {hint}")
+    entries = matrix.tocoo()
+    if len(entries.shape) != 2 or entries.shape[0] != entries.shape[1]:
+        raise ValueError(f"the matrix is not square: its shape is {entries.shape}")
+    if entries.nnz and entries.data.dtype.kind not in "iu":
+        first = f"{entries.data[0]} in row {entries.row[0]} and column {entries.col[0]}"
+        hint = "matrix.astype(int) rounds towards 0"
+        raise TypeError(f"the matrix has numbers of {entries.data.dtype}, as {first}, and not of int: {hint}")
+    alone = entries.copy()
+    alone.sum_duplicates()
+    if alone.nnz != entries.nnz:
+        raise ValueError("the matrix has two entries at one place: matrix.sum_duplicates() adds them")
+    return entries

@@ -37,8 +37,9 @@ versions: dict[tuple[str, ...], str] = {}
 WIDTH = 1 << 17
 # Why no program starts after Children.stop.
 STOPPED = "all runs were stopped"
-# Where to get the program.
-WHERE = "the wheels for Linux on x86-64 and ARM bring it, and docs/FILES.md names other ways"
+# Where the page on the commands and calls is, from here: in a wheel, in a clone or an archive, and where `./install`
+# and Debian put it.
+PAGES = ["FILES.md", *(f"../../../{it}/FILES.md" for it in ("docs", "doc/dnorm/docs", "../share/doc/dnorm/docs"))]
 
 
 class Children:
@@ -107,6 +108,18 @@ def find_program(program: Program = None) -> str:
     return words[0] if len(words) == 1 else shlex.join(words)
 
 
+def page() -> str:
+    """Returns the path of the page that describes the commands and the calls, or its name if it is not there."""
+    here = os.path.dirname(os.path.realpath(__file__))
+    found = (os.path.normpath(os.path.join(here, it)) for it in PAGES)
+    return next(filter(os.path.isfile, found), "docs/FILES.md")
+
+
+def where() -> str:
+    """Returns where to get the program."""
+    return f"the wheels for Linux on x86-64 and ARM bring it, and {page()} names other ways"
+
+
 def command(program: Program) -> list[str]:
     """Returns the words by which the program is run."""
     named = os.environ.get("DNORM")
@@ -114,7 +127,7 @@ def command(program: Program) -> list[str]:
         installed = (f"{it}/dnorm" for it in script_folders())
         found = next(filter(shutil.which, installed), None) or on_path("dnorm")
         if not found:
-            raise NoProgram("dnorm", f"there is no such program on PATH, and $DNORM names none; {WHERE}")
+            raise NoProgram("dnorm", f"there is no such program on PATH, and $DNORM names none; {where()}")
         return [found]
     wanted = named or "" if program is None else os.fspath(program)
     # A path may contain blanks. If there is no such file, they separate words.

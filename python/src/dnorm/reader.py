@@ -7,8 +7,9 @@ import re
 from array import array
 from typing import Any, Optional, Union
 
+from .answers import Form
 from .calls import canon_into, check_form
-from .columns import Growing
+from .columns import Growing, Own
 from .errors import Unexpected
 from .files import File, Sink, Text, enough_memory, name_of
 from .instances import COUNTED, PROBLEM, AnyInstance, Co, Max, Min, P2p, Sp, Ss
@@ -108,7 +109,7 @@ class Reader:
         return unexpected(self.name, 0, next(bad, self._head).decode("ascii", "backslashreplace"))
 
 
-def read(file: File, form: int = 1, *, program: Program = None, timeout: Optional[float] = None) -> AnyInstance:
+def read(file: File, form: Form = 1, *, program: Program = None, timeout: Optional[float] = None) -> AnyInstance:
     """Returns the instance that a text poses: an `Sp`, `Max`, `Min`, `Ss`, `P2p` or `Co`. `form` is 1 or 2, and matters
     only for `Min`. The library for C reads it where `find_library` finds it, and the program by its canonical text
     elsewhere."""
@@ -133,7 +134,8 @@ def instance_by(found: Held) -> AnyInstance:
 def instance(
     kind: str, nodes: int, flows: dict[int, int], terminals: dict[bytes, int], columns: list[Any]
 ) -> AnyInstance:
-    """Returns an instance of a kind."""
+    """Returns an instance of a kind, which keeps these columns."""
+    columns = list(map(Own, columns))
     if kind == "min":
         tails, heads, lows, caps, costs = columns
         return Min(nodes, tails, heads, flows, lows, caps, costs)

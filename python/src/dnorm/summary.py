@@ -9,11 +9,11 @@ import os
 from collections.abc import Iterator
 from typing import Optional, Union
 
-from .answers import AnyDifference, Same, compared
+from .answers import AnyDifference, Same, compared, table
 from .calls import answer, canon_into
 from .files import File, Sink, Text, enough_memory, name_of
 from .handles import first_difference
-from .instances import AnyInstance, Graph, Instance, Max, Min
+from .instances import AnyInstance, Graph, Instance, Max, Min, whole
 from .library import GRAPHS, Library, instance_of, library_of
 from .library import Instance as Held
 from .limits import Limit, at_once
@@ -50,6 +50,10 @@ class Differences:
         counts = [f"{it}={getattr(self, it)}" for it in ("only_left", "only_right", "both", "different")]
         return f"<dnorm.Differences: {self.first}, {', '.join(counts)}>"
 
+    def _repr_html_(self) -> str:
+        """Returns what a notebook shows: the first differing pairs as a table."""
+        return table(self, ("key", "left", "right"), ((it.key, it.left, it.right) for it in self.pairs))
+
 
 def differences(
     left: File,
@@ -61,7 +65,7 @@ def differences(
 ) -> Differences:
     """Returns all differences between two texts, and the arcs of the first differing pairs, at most `limit` of them. It
     keeps both canonical texts in memory."""
-    if limit is not None and limit < 0:
+    if limit is not None and whole("limit", limit) < 0:
         raise ValueError(f"limit is at least 0, and not {limit}")
     time, library = Limit(timeout, name_of(left)), library_of(program)
     with enough_memory(time.name):

@@ -18,8 +18,9 @@ from .. import __version__
 from ..console import SIGNALS, Console, Stopped, for_terminal, has_output, stop
 from ..errors import DnormError, Read, Refused, Write
 from ..files import failing
+from ..limits import LONGEST
 from ..names import ENDINGS
-from ..program import processors, version
+from ..program import page, processors, version
 from .reports import cause_of, line_of
 from .tasks import FAILED, REFUSED, USAGE, Run
 
@@ -62,7 +63,8 @@ class Parser(argparse.ArgumentParser):
 
 def parser() -> Parser:
     """Returns the parser of the command line."""
-    layout: dict[str, Any] = {"formatter_class": argparse.RawDescriptionHelpFormatter, "epilog": STATUSES}
+    epilog = f"{STATUSES}\n{page()} describes the commands.\n"
+    layout: dict[str, Any] = {"formatter_class": argparse.RawDescriptionHelpFormatter, "epilog": epilog}
     top = Parser(prog="dnorm-files", description=ABOUT, allow_abbrev=False, **layout)
     top.add_argument("-V", "--version", action="version", version=f"dnorm for Python {__version__}")
     tasks = top.add_subparsers(dest="task", required=True, metavar="COMMAND")
@@ -151,8 +153,8 @@ def parsed(words: Sequence[str]) -> argparse.Namespace:
     error = found.parser.error
     if others:
         error(f"unrecognized arguments: {' '.join(others)}")
-    if found.timeout is not None and found.timeout <= 0:
-        error("--timeout is above 0")
+    if found.timeout is not None and not 0 < found.timeout <= LONGEST:
+        error(f"--timeout is above 0, and at most {LONGEST} seconds")
     if "path" in found:
         check_files(found, error)
     elif found.limit < 0:
@@ -288,3 +290,13 @@ def main(words: Sequence[str] | None = None) -> int:
     except Exception:
         console.complain(traceback.format_exc())
         return FAILED
+
+
+def explain() -> int:
+    """Runs dnorm-explain of a wheel."""
+    return main(["explain", *sys.argv[1:]])
+
+
+def canon_in_parts() -> int:
+    """Runs canon-in-parts of a wheel."""
+    return main(["parts", *sys.argv[1:]])

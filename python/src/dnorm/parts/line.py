@@ -35,7 +35,7 @@ Usage: canon-in-parts [OPTION..] FILE
   --sshloginfile LIST  a file of such machines; may be repeated
   --tmpdir DIR         where temporary files go (default: TMPDIR, or /tmp)
   --program PROGRAM    the built program (default: the one that came with this script; in a clone of the repository
-                       it is built first if it does not exist)
+                       the one that ./dnorm runs, which is built first if there is none)
   --version            prints the version
 
 It needs Python 3.9 or later. For other machines it needs GNU parallel (on Debian: apt-get install parallel), ssh and
@@ -92,7 +92,7 @@ def parser() -> Parser:
     add("--form", type=matching("[12]", "1 or 2"), default="1")
     add("--lines", type=count, default="1000000")
     add("--parts", type=count)
-    add("--jobs", type=matching("[+-]?[0-9]+%?", "a number"))
+    add("--jobs", type=matching("[+-]?[0-9]+|[0-9]+%", "a number"))
     add("--sshlogin", action="append", default=[])
     add("--sshloginfile", action="append", default=[], type=readable)
     add("--tmpdir", default=os.environ.get("TMPDIR") or "/tmp")
@@ -121,16 +121,26 @@ class Place:
         self.here, self.root = here, root
 
     def program(self) -> str:
-        """Returns the program: in a clone, the one that ./dnorm runs, which builds it first if there is none; otherwise
-        the program beside the script, where both are installed, or at the top of a release."""
+        """Returns the program: in a clone, the one that `./dnorm` runs, which is built first if there is none;
+        otherwise the program beside the script, where both are installed, or at the top of a release."""
         if os.path.exists(f"{self.root}/crates.txt"):
-            for it in ["dnorm", "tools/program"]:
-                ran = subprocess.run([f"{self.root}/{it}", "--version"], stdout=subprocess.PIPE, check=False)
-                if ran.returncode:
-                    raise Ended(125, "")
-            return os.fsdecode(ran.stdout).rstrip("\n")
+            return self.found() or self.built()
         beside = f"{self.here}/dnorm"
         return beside if os.access(beside, os.X_OK) else f"{self.root}/dnorm"
+
+    def found(self) -> str:
+        """Returns the program that `./dnorm` of the clone runs, or nothing if there is none yet."""
+        ran = subprocess.run([f"{self.root}/tools/program"], capture_output=True, check=False)
+        return "" if ran.returncode else os.fsdecode(ran.stdout.removesuffix(b"\n"))
+
+    def built(self) -> str:
+        """Has `./dnorm` build the program, and returns it."""
+        ran = subprocess.run([f"{self.root}/dnorm", "--version"], stdout=subprocess.DEVNULL, check=False)
+        program = "" if ran.returncode else self.found()
+        if not program:
+            # What ran has said why.
+            raise Ended(125, "")
+        return program
 
 
 class Anywhere(Place):
