@@ -431,16 +431,8 @@ ENDED = [
 @pytest.mark.parametrize("stays, number, ignored", [*ENDED, ("c-library", signal.SIGTERM, "yes")])
 def test_ended_check(folder: str, heeded: None, stays: str, number: int, ignored: str) -> None:
     """./check that is ended by a signal, which it alone gets, ends all that it has started, and leaves no file."""
-    shutil.copy(f"{ROOT}/check", "check")
-    os.mkdir("temporary")
-    for it in CALLED:
-        os.makedirs(os.path.dirname(it), exist_ok=True)
-        write(it, STANDS)
-        os.chmod(it, 0o755)
-    os.makedirs("crates/dnorm/out")
-    own = {"PATH": f"{folder}/bin:{os.environ['PATH']}", "STAYS": stays, "LOG": f"{folder}/log", "IGNORED": ignored}
-    own |= {"TMPDIR": f"{folder}/temporary", "RT_JOBS": "1", "CI": ""}
-    process = subprocess.Popen(["./check"], env={**os.environ, **own}, stdout=subprocess.DEVNULL)
+    own = scratch_check(folder) | {"STAYS": stays, "IGNORED": ignored}
+    process = subprocess.Popen(["./check"], env=own, stdout=subprocess.DEVNULL)
     try:
         while process.poll() is None and not os.path.exists("log.ready"):
             time.sleep(0.05)
@@ -452,6 +444,32 @@ def test_ended_check(folder: str, heeded: None, stays: str, number: int, ignored
         for it in [str(process.pid), *text_of("log").split()]:
             with contextlib.suppress(ProcessLookupError):
                 os.kill(int(it), signal.SIGKILL)
+
+
+def scratch_check(folder: str) -> dict[str, str]:
+    """Makes ./check with what stands for all that it calls, and returns its environment."""
+    shutil.copy(f"{ROOT}/check", "check")
+    os.mkdir("temporary")
+    for it in CALLED:
+        os.makedirs(os.path.dirname(it), exist_ok=True)
+        write(it, STANDS)
+        os.chmod(it, 0o755)
+    os.makedirs("crates/dnorm/out")
+    own = {"PATH": f"{folder}/bin:{os.environ['PATH']}", "LOG": f"{folder}/log", "TMPDIR": f"{folder}/temporary"}
+    return {**os.environ, **own, "STAYS": "", "IGNORED": "", "RT_JOBS": "1", "CI": ""}
+
+
+@pytest.mark.parametrize(
+    "failing, line", [("", "12 passed, 0 failed"), *((it, "11 passed, 1 failed") for it in CALLED[4:8])]
+)
+def test_counts_of_check(folder: str, heeded: None, failing: str, line: str) -> None:
+    """What ./check counts, also of what runs beside it, and its status."""
+    own = scratch_check(folder)
+    if failing:
+        write(failing, STANDS.replace("1 passed, 0 failed'", "0 passed, 1 failed'; exit 1"))
+    found = run(["./check"], env=own)
+    assert (found.out.decode().splitlines()[-1], found.status) == (line, 1 if failing else 0), found
+    assert os.listdir("temporary") == []
 
 
 def test_left_out(tested: str, folder: str) -> None:
