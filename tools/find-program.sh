@@ -4,7 +4,8 @@
 #
 # Each call looks at the time of change of every file that decides, and of its folder. Nothing less finds a file that
 # was edited where it is, and nothing that a user can set is believed: `cp -p` and `touch` set other times, and git's
-# index does not list new files. A call of ./dnorm takes some 15 times as long as one of the program.
+# index does not list new files. That takes some 15 times as long as a start of the program, so where nobody can build,
+# ./dnorm takes the last answer, as its head says.
 
 root=${BASH_SOURCE[0]%/tools/find-program.sh}
 out=$root/crates/dnorm/out
@@ -50,9 +51,24 @@ find_released() {
         packed=$program.gz program=$out/released/dnorm-$machine
     fi
     [[ $packed || -e $program ]] || return 1
+    begin_quick
     if [[ ! -x $program ]] || ! is_current "$found"; then
-        check_released
+        check_released || return 1
     fi
+    [[ ! $quick ]] || mv "$quick.$$" "$quick" 2> /dev/null || true
+}
+
+# Begins the mark by which ./dnorm finds this program, if git keeps this clone. It is as old as the check that begins.
+begin_quick() {
+    local host=''
+    quick=''
+    [[ -f $root/.git/index ]] || return 0
+    # This changes crates/dnorm, so it comes before the time of the mark.
+    [[ -d $out/released ]] || mkdir -p "$out/released" 2> /dev/null || return 0
+    read -r host 2> /dev/null < /proc/sys/kernel/hostname || true
+    quick=$out/released/quick-$host
+    trap 'rm -f "$quick.$$"' EXIT
+    { echo "${program#"$root/"}" > "$quick.$$"; } 2> /dev/null || quick=''
 }
 
 # Compares the released program's sources and files with their sums. If they agree, sets the mark to the time before the

@@ -11,6 +11,7 @@ import contextlib
 import gzip
 import os
 import re
+import resource
 import shutil
 import signal
 import subprocess
@@ -20,7 +21,7 @@ from typing import Any
 
 import pytest
 from known import ROADS, ROADS_CANON
-from needs import leave_out, pass_over
+from needs import leave_out, need, pass_over
 from shared import LIMIT, ROOT, Answer, bytes_of, own_folder, run, said, text_of, write
 
 pytestmark = pytest.mark.whole
@@ -243,6 +244,76 @@ def test_read_only(clone: Clone, tested: str) -> None:
             assert (found.out, found.status) == (b"", 125), "another source"
             other.write("crates/dnorm/src/main.rt", "// a source\n")
             runs("by the other user", other)
+
+
+class Git:
+    """A clone that git keeps."""
+
+    def __init__(self, clone: Clone) -> None:
+        self.clone = clone
+        clone.write(".gitignore", "out/\n")
+        self.run("init", "-q")
+        self.run("add", ".")
+        self.run("-c", "user.name=a", "-c", "user.email=a@example.org", "commit", "-q", "-m", "all")
+        # The mark is later than the index.
+        time.sleep(0.1)
+
+    def run(self, *words: str) -> None:
+        found = run(["git", *words], cwd=self.clone.folder)
+        assert found == said(), words
+
+
+def test_last_answer(clone: Clone) -> None:
+    """Where git keeps a clone, and nobody can build, the last answer stands until git or released/ changes."""
+    need("git")
+    git, source, program = Git(clone), "crates/dnorm/src/main.rt", bytes_of(f"{clone.folder}/tools/program")
+    runs("the first time", clone)
+    clone.write("tools/program", "#!/bin/sh\nexit 9\n")
+    runs("by the last answer", clone)
+    clone.write("tools/program", program)
+    clone.write(source, "// another\n")
+    runs("a source that git does not know yet", clone)
+    assert clone.run("tools/program").status == 125, "tools/program looks at each source"
+    os.mkdir("bin")
+    write("bin/rt", "#!/bin/sh\nexit 1\n")
+    os.chmod("bin/rt", 0o755)
+    found = clone.run("dnorm", given=ROADS, path=f"{os.getcwd()}/bin:{WITHOUT_RT}")
+    assert (found.out, found.status) == (b"", 125), "a source, where rt can build"
+    git.run("add", source)
+    stops("a source that git knows", clone, NO_RT)
+    git.run("checkout", "-q", "HEAD", "--", source)
+    runs("a source as it was", clone)
+    for name in [AT, "released/SHA256SUMS"]:
+        time.sleep(0.1)
+        kept = bytes_of(f"{clone.folder}/{name}")
+        clone.write(name, b"x" + kept)
+        stops(f"another {name}", clone, CHANGED)
+        clone.write(name, kept)
+        runs(f"{name} as it was", clone)
+    clone.write(f"{OUT}/dnorm", "#!/bin/sh\necho built\n")
+    os.chmod(f"{clone.folder}/{OUT}/dnorm", 0o755)
+    clone.write(f"{OUT}/built", "".join(f"{it}\0" for it in ["crates.txt", source]))
+    assert clone.run("dnorm") == said("built\n"), "./dnorm, a built program"
+
+
+@pytest.mark.alone
+def test_cost(clone: Clone) -> None:
+    """./dnorm of a clone takes at most four times the processor time of the program itself; three without other load."""
+    need("git")
+    Git(clone)
+    runs("the first time", clone)
+
+    def cost(path: str) -> float:
+        before = resource.getrusage(resource.RUSAGE_CHILDREN)
+        for _ in range(50):
+            run([path, "--version"], env={**os.environ, "PATH": WITHOUT_RT})
+        after = resource.getrusage(resource.RUSAGE_CHILDREN)
+        return after.ru_utime + after.ru_stime - before.ru_utime - before.ru_stime
+
+    none, program, script = (
+        min(map(cost, 3 * [it])) for it in ["/bin/true", f"{clone.folder}/{AT}", f"{clone.folder}/dnorm"]
+    )
+    assert script < 4 * program, f"{program} and {script} seconds, and {none} for a program that does nothing"
 
 
 def test_ways_to_call(clone: Clone) -> None:
