@@ -70,6 +70,8 @@ def values() -> Iterator[tuple[str, str]]:
             name = it.option_strings[-1] if it.option_strings else ""
             if name and name != "--help":
                 kinds = {"FILE": FILES_HERE, "PROGRAM": FILES_HERE, None: FILES_HERE if it.nargs == 0 else ""}
+                # A value that may be missing stands behind a sign.
+                kinds["COMMIT"] = FILES_HERE
                 known = " ".join(map(str, it.choices)) if it.choices else kinds.get(it.metavar, "")
                 yield f"dnorm-files {task} {name} ", known
 
