@@ -1,2 +1,3 @@
 pub mod BundleExamples
 pub mod TextExamples
+pub mod DifferenceExamples

@@ -82,13 +82,13 @@ module _ {K : Type 0} (cmp : K → K → Ordering) (total : IsTotalOrder cmp) (e
 -- ---- graphs
 
 -- a pair that no arc has has no arcs
-bundle_apart : {Arc : Type 0} (p : ℤ × ℤ) (arcs : List ((ℤ × ℤ) × Arc)) → IsApart (same_pair p) (keys_of arcs)
+pub bundle_apart : {Arc : Type 0} (p : ℤ × ℤ) (arcs : List ((ℤ × ℤ) × Arc)) → IsApart (same_pair p) (keys_of arcs)
     → bundle p arcs ≡ []
 bundle_apart p [] h = refl
 bundle_apart p (a ∷ arcs) h = rw (h.0) (bundle_apart p arcs h.1)
 
 -- at a pair that no arc has, neither list has arcs
-same_outside : {Arc : Type 0} (kind : ArcKind Arc) (laws : IsKind kind) (xs ys : List ((ℤ × ℤ) × Arc)) (p : ℤ × ℤ)
+pub same_outside : {Arc : Type 0} (kind : ArcKind Arc) (laws : IsKind kind) (xs ys : List ((ℤ × ℤ) × Arc)) (p : ℤ × ℤ)
     → IsApart (same_pair p) (keys_of xs ++ keys_of ys) → kind.Same (bundle p xs) (bundle p ys)
 same_outside kind laws xs ys p h =
     let both = apart_both (same_pair p) (keys_of xs) (keys_of ys) h in
@@ -113,13 +113,13 @@ some_pair kind laws decide G H g h =
 -- ---- maps
 
 -- a key that no entry has has no value
-lookup_apart : {K X : Type 0} (test : K → Bool) (es : List (K × X)) → IsApart test (keys_of es)
+pub lookup_apart : {K X : Type 0} (test : K → Bool) (es : List (K × X)) → IsApart test (keys_of es)
     → lookup test es ≡ None
 lookup_apart test [] h = refl
 lookup_apart test (e ∷ es) h = rw (h.0) (lookup_apart test es h.1)
 
 -- at an ID that no entry has, neither list has a value
-alike_outside : {X : Type 0} (es fs : List (ℤ × X)) (P : Option X → Option X → Type 0) → P None None → (q : ℤ)
+pub alike_outside : {X : Type 0} (es fs : List (ℤ × X)) (P : Option X → Option X → Type 0) → P None None → (q : ℤ)
     → IsApart (is_at (int_cmp q)) (keys_of es ++ keys_of fs) → P (value_of es q) (value_of fs q)
 alike_outside es fs P nothing q h =
     let both = apart_both (is_at (int_cmp q)) (keys_of es) (keys_of fs) h in
@@ -145,7 +145,7 @@ same_pair_or_not a b = elim (cases_Bool (same_pair a b)) [
 
 -- ---- lists
 
-later_place : {A : Type 0} (x y : A) (xs ys : List A) (i : ℕ) → x ≡ y → ItemsPartAt xs ys i
+pub later_place : {A : Type 0} (x y : A) (xs ys : List A) (i : ℕ) → x ≡ y → ItemsPartAt xs ys i
     → ItemsPartAt (x ∷ xs) (y ∷ ys) (suc i)
 later_place x y xs ys zero e d = absurd (d.differ refl)
 later_place x y xs ys (suc i) e d = record { differ = d.differ; same_before = before }
@@ -155,7 +155,7 @@ later_place x y xs ys (suc i) e d = record { differ = d.differ; same_before = be
     before (suc zero) lt = ap Some e
     before (suc (suc j)) lt = d.same_before (suc j) (omega (arith, lt))
 
-first_place : {A : Type 0} (x y : A) (xs ys : List A) → x ≢ y → ItemsPartAt (x ∷ xs) (y ∷ ys) 1
+pub first_place : {A : Type 0} (x y : A) (xs ys : List A) → x ≢ y → ItemsPartAt (x ∷ xs) (y ∷ ys) 1
 first_place x y xs ys n = record { differ = inner x y n; same_before = before }
   where
     before : (j : ℕ) → j < 1 → item_at (x ∷ xs) j ≡ item_at (y ∷ ys) j
