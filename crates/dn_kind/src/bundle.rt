@@ -1,5 +1,5 @@
 // The trait of bundles, which represent what the parallel arcs of one ordered pair mean.
-ghost use Rattle.std.specs.Prelude.{◌≡◌, ◌-◌, ◌^◌, pos, ◌≤ℤ◌, ◌<ℤ◌, ◌↔◌, [], ◌∷◌, ◌++◌, length, IsTrue, IfOk, OnOk, OnErr, slice_get};
+ghost use Rattle.std.specs.Prelude.{◌≡◌, ◌-◌, ◌^◌, pos, ◌≤ℤ◌, ◌<ℤ◌, ◌↔◌, [], ◌∷◌, ◌++◌, length, IsTrue, IfOk, IfSome, OnOk, OnErr, Contains, slice_get};
 ghost use Rattle.std.specs.List.{AllByRecursion};
 ghost use Rattle.std.specs.Option.{option_copied};
 ghost use Rattle.dn_arc.specs.State.Bundles.{BundleFacts, Gains, IsAfter, IsBundleOf, IsHow, IsKind, NumbersFit, PassesSum, Widens, listed_of, meant};
@@ -81,8 +81,10 @@ pub trait Bundle: Sized + Drop {
         ensures { result ≡ slice_get (bundle.listed form self.now) i };
 
     /// Returns the canonical arc after this one, or `None` after the last, so that a walk can continue from any arc.
+    /// After any other arc, it returns some canonical arc or `None`.
     fn canon_after(&self, arc: &Self::Arc, form: Form) -> Option<Self::Arc>
-        ensures { IsAfter (bundle.listed form self.now) arc.now result };
+        ensures after { IsAfter (bundle.listed form self.now) arc.now result }
+        ensures listed { IfSome result (Contains (bundle.listed form self.now)) };
 
     /// The laws of the kind of arcs.
     ghost laws: { IsKind bundle.kind };
