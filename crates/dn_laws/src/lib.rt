@@ -11,5 +11,6 @@ pub mod lines;
 pub mod numbers;
 pub mod reports;
 pub mod rows;
+pub mod runs;
 pub mod texts;
 pub mod words;

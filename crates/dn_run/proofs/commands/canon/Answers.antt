@@ -1,6 +1,6 @@
 use Rattle.std.proofs.Common.{refl, inl}
-use Rattle.dn_run.proofs.CommandLaws.{canon_after, canon_refused, canon_unwritten, unwritten_answers}
-use Rattle.dn_run.proofs.OutcomeLaws.{added, does_refuse, on_read, on_refused, passed_on}
+use Rattle.dn_run.proofs.CommandLaws.{canon_after, canon_unread, canon_unwritten, unwritten_answers}
+use Rattle.dn_run.proofs.OutcomeLaws.{added, does_refuse, on_read, passed_on}
 use Rattle.dn_instance.proofs.ValidLaws.{reads_valid}
 use Rattle.dn_canon.specs.Prints.{print}
 use Rattle.dn_run.specs.Answers.{Done}
@@ -43,5 +43,5 @@ returns-in_err-held g c =
     let (refusal, is, h) = c.in_err-held.ensures.read in
     does_refuse _ _ (passed_on _ _ c.from_residual.ensures.1) is (record {
       asks = c.in_err-held.ensures.asks;
-      means = on_refused h (λ b r. canon_refused _ c.args.form b refusal r);
+      means = canon_unread c.args.form h;
     }) (refl, inl h.refusal)

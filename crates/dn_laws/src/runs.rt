@@ -1,0 +1,2 @@
+// Runs of the program.
+pub mod laws;
