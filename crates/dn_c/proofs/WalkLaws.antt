@@ -1,5 +1,5 @@
 -- Lemmas on a walk over canonical arcs.
-use Rattle.std.proofs.Common.{◌≡◌, ◌≤◌, ◌<◌, ◌+◌, ℕ, ℤ, zero, suc, List, [], ◌∷◌, ◌++◌, length, take, drop, slice_get, get_or, map, Option, None, Some, All, Contains, refl, sym, ap, ◌∙◌, arith, drop-drop, length-drop, length-append, take-add}
+use Rattle.std.proofs.Common.{◌≡◌, ◌≤◌, ◌<◌, ◌+◌, ℕ, ℤ, zero, suc, List, [], ◌∷◌, ◌++◌, length, take, drop, slice_get, Option, None, Some, Contains, refl, sym, ap, ◌∙◌, arith, drop-drop, length-drop, length-append, take-add}
 use Rattle.dn_canon.specs.State.ListedArcs.{placed, listed_arcs}
 use Rattle.dn_canon.proofs.LineLaws.{drop_get}
 use Rattle.std.proofs.lemmas.List.{length-map, get_or-map, map-append, take-map, drop-map, take_more_set}

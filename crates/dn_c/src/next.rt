@@ -1,5 +1,5 @@
 // Copies canonical arcs, one after the other.
-ghost use Rattle.std.specs.Prelude.{◌≡◌, ◌≤◌, length};
+ghost use Rattle.std.specs.Prelude.{◌≤◌, length};
 ghost use Rattle.dn_c.specs.State.Walks.{CopiesFrom, CopiesListed, Fills, HasRows};
 
 use crate::arcs::{Arc, row};

@@ -1,7 +1,7 @@
 // The canonical arcs of a table, one after the other, from any arc on.
-ghost use Rattle.std.specs.Prelude.{◌≡◌, MatchOption, IfSome, Contains};
+ghost use Rattle.std.specs.Prelude.{IfSome, Contains};
 ghost use Rattle.dn_canon.specs.State.ListedArcs.{listed_arcs};
-ghost use Rattle.dn_c.specs.State.Walks.{IsNextArc, IsLeft, StepsArc};
+ghost use Rattle.dn_c.specs.State.Walks.{IsNextArc, StepsArc};
 
 use dn_bundle::{Bundle, Form};
 use dn_table::Table;

@@ -6,7 +6,8 @@ use Rattle.std.specs.Ordering.{int_cmp}
 use Rattle.std.specs.declared.cmp.Ordering.TheVariants.{Less}
 use Rattle.std.proofs.lemmas.Cmp.{int_cmp_total}
 use Rattle.std.proofs.lemmas.Map.Lookups.{exact_signed}
-use Rattle.dn_arc.specs.State.Bundles.{IsKind}
+use Rattle.dn_arc.specs.State.Bundles.{ArcDiffer, IsKind}
+use Rattle.dn_arc.specs.Differences.{CurvesDiffer, LengthsDiffer}
 use Rattle.dn_arc.specs.Kinds.{ArcKind}
 use Rattle.dn_arc.specs.Kinds as Arcs
 use Rattle.dn_arc.specs.Pairs.{bundle, pair_cmp}
@@ -36,11 +37,11 @@ map_part {V} {W} {by} {es} {fs} {id} {what} nothing d all = record {
       (keys_of es ++ keys_of fs) all (λ h lt. alike_outside es fs by.Alike nothing q h);
 }
 
-pub arcs_part : {Arc : Type 0} (kind : ArcKind Arc) (laws : IsKind kind) {xs ys : List ((ℤ × ℤ) × Arc)} {pair : ℤ × ℤ}
-    {how : How} → kind.Differ (bundle pair xs) (bundle pair ys) how
+pub arcs_part : {Arc : Type 0} (kind : ArcKind Arc) (Differ : ArcDiffer Arc) (laws : IsKind kind)
+    {xs ys : List ((ℤ × ℤ) × Arc)} {pair : ℤ × ℤ} {how : How} → Differ (bundle pair xs) (bundle pair ys) how
     → AllByRecursion (λ k. pair_cmp k pair ≡ Less → kind.Same (bundle k xs) (bundle k ys)) (keys_of xs ++ keys_of ys)
-    → ArcsPartAt kind xs ys pair how
-arcs_part kind laws {xs} {ys} {pair} {how} d all = record {
+    → ArcsPartAt kind Differ xs ys pair how
+arcs_part kind Differ laws {xs} {ys} {pair} {how} d all = record {
   differ = d;
   same_before =
       λ q. everywhere pair_cmp pair_total exact_pair
@@ -50,15 +51,15 @@ arcs_part kind laws {xs} {ys} {pair} {how} d all = record {
 
 -- the lists of `sp` and `min` graphs
 pub lengths_part : {xs ys : List ((ℤ × ℤ) × LengthArc)} {src dst : ℤ} {how : How}
-    → Arcs.lengths.Differ (bundle (src, dst) xs) (bundle (src, dst) ys) how
+    → LengthsDiffer (bundle (src, dst) xs) (bundle (src, dst) ys) how
     → AllByRecursion (λ k. pair_cmp k (src, dst) ≡ Less → Arcs.lengths.Same (bundle k xs) (bundle k ys))
     (keys_of xs ++ keys_of ys)
     → IsFirstDifference (with_lengths xs) (with_lengths ys) (Pair src dst how)
-lengths_part d all = sp_pairs _ _ _ refl (arcs_part Arcs.lengths length_kind d all)
+lengths_part d all = sp_pairs _ _ _ refl (arcs_part Arcs.lengths LengthsDiffer length_kind d all)
 
 pub costs_part : {xs ys : List ((ℤ × ℤ) × CostArc)} {how : How}
-    → Arcs.costs.Differ (bundle (pos 1, pos 2) xs) (bundle (pos 1, pos 2) ys) how
+    → CurvesDiffer (bundle (pos 1, pos 2) xs) (bundle (pos 1, pos 2) ys) how
     → AllByRecursion (λ k. pair_cmp k (pos 1, pos 2) ≡ Less → Arcs.costs.Same (bundle k xs) (bundle k ys))
     (keys_of xs ++ keys_of ys)
     → IsFirstDifference (with_costs xs) (with_costs ys) (Pair (pos 1) (pos 2) how)
-costs_part d all = min_pairs [] [] _ _ _ refl refl (arcs_part Arcs.costs cost_kind d all)
+costs_part d all = min_pairs [] [] _ _ _ refl refl (arcs_part Arcs.costs CurvesDiffer cost_kind d all)

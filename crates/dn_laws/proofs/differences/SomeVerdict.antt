@@ -10,7 +10,8 @@ use Rattle.std.specs.declared.cmp.Ordering.TheVariants.{Less, Equal, Greater}
 use Rattle.std.proofs.lemmas.Bool.{both_ways, cases_Bool, cases_eq}
 use Rattle.std.proofs.lemmas.Cmp.{int_cmp_total}
 use Rattle.std.proofs.lemmas.Map.Lookups.{CmpEqualImpliesEq, exact_signed}
-use Rattle.dn_arc.specs.State.Bundles.{IsKind}
+use Rattle.dn_arc.specs.Differences.{CurvesDiffer, LengthsDiffer, TotalsDiffer}
+use Rattle.dn_arc.specs.State.Bundles.{ArcDiffer, IsKind}
 use Rattle.dn_arc.specs.Kinds.{ArcKind, costs, capacities, lengths}
 use Rattle.dn_arc.specs.declared.difference.How.{How}
 use Rattle.dn_arc.proofs.CostKindLaws.{cost_kind}
@@ -94,16 +95,17 @@ same_outside kind laws xs ys p h =
     let both = apart_both (same_pair p) (keys_of xs) (keys_of ys) h in
     rw (bundle_apart p xs both.0, bundle_apart p ys both.1) (laws.meaning.same_refl [])
 
-some_pair : {Arc : Type 0} (kind : ArcKind Arc) (laws : IsKind kind)
+some_pair : {Arc : Type 0} (kind : ArcKind Arc) (Differ : ArcDiffer Arc) (laws : IsKind kind)
     → ((xs ys : List Arc) → AllByRecursion kind.IsArc xs → AllByRecursion kind.IsArc ys
-    → kind.Same xs ys ⊎ ((how : How) × kind.Differ xs ys how))
-    → (G H : Graph Arc) → IsValidGraph kind G → IsValidGraph kind H → (v : Verdict) × IsPairVerdict kind G.arcs H.arcs v
-some_pair kind laws decide G H g h =
+    → kind.Same xs ys ⊎ ((how : How) × Differ xs ys how))
+    → (G H : Graph Arc) → IsValidGraph kind G → IsValidGraph kind H
+    → (v : Verdict) × IsPairVerdict kind Differ G.arcs H.arcs v
+some_pair kind Differ laws decide G H g h =
     let are : (n : ℤ) (p : ℤ × ℤ) (arcs : List _) → AllByRecursion (IsPlaced kind n) arcs
     → AllByRecursion kind.IsArc (bundle p arcs) =
     λ n. all_at_pair (IsPlaced kind n) kind.IsArc (λ a x. x.is_arc) in
     elim (least pair_cmp pair_total exact_pair (λ p. kind.Same (bundle p G.arcs) (bundle p H.arcs))
-    (λ p. (how : How) × kind.Differ (bundle p G.arcs) (bundle p H.arcs) how)
+    (λ p. (how : How) × Differ (bundle p G.arcs) (bundle p H.arcs) how)
     (λ p. decide (bundle p G.arcs) (bundle p H.arcs) (are G.nodes p G.arcs g.placed) (are H.nodes p H.arcs h.placed))
     (keys_of G.arcs ++ keys_of H.arcs) (same_outside kind laws G.arcs H.arcs)) [
       | inl all ↦ (Verdicts.Same, all)
@@ -199,7 +201,7 @@ some_min s t G H g h n =
     elim (least_id s t (λ a b. flow_or_zero a ≡ flow_or_zero b) (λ a b. flow_or_zero a ≢ flow_or_zero b)
     (λ a b. same_or_not (flow_or_zero a) (flow_or_zero b)) refl) [
       | inl all ↦
-          (let p = some_pair costs cost_kind curve_or_differ G H g.0 h.0 in
+          (let p = some_pair costs CurvesDiffer cost_kind curve_or_differ G H g.0 h.0 in
           (p.0, min_pairs s t G H p.0 (supplies_same G.nodes H.nodes s t g.1.map h.1.map g.1.each h.1.each all) n p.1))
       | inr l ↦ (_, supply_at s t G H l.0 _ _ n (record { differ = (refl, refl, l.1); same_before = l.2 }))
     ]
@@ -209,7 +211,7 @@ some_max : (a b c d : ℤ) (G H : Graph _) → IsValid (MaxFlow a b G) → IsVal
 some_max a b c d G H g h n = elim (same_or_not a c) [
   | inl e ↦ elim (same_or_not b d) [
     | inl f ↦
-        (let p = some_pair capacities total_kind (λ xs ys x y. total_or_differ xs ys) G H g.0 h.0 in
+        (let p = some_pair capacities TotalsDiffer total_kind (λ xs ys x y. total_or_differ xs ys) G H g.0 h.0 in
         (p.0, max_pairs a b c d G H p.0 e f n p.1))
     | inr m ↦ (_, sink_first (MaxFlow a b G) _ refl n (λ id. refl) (ap Some e) b d (refl, refl, inner b d m))
   ]
@@ -219,7 +221,7 @@ some_max a b c d G H g h n = elim (same_or_not a c) [
 some_sp : (G H : Graph _) → IsValid (ShortestPaths G) → IsValid (ShortestPaths H) → G.nodes ≡ H.nodes
     → AnyVerdict (ShortestPaths G) (ShortestPaths H)
 some_sp G H g h n =
-    let p = some_pair lengths length_kind (λ xs ys x y. length_or_differ xs ys) G H g h in
+    let p = some_pair lengths LengthsDiffer length_kind (λ xs ys x y. length_or_differ xs ys) G H g h in
     (p.0, sp_pairs G H p.0 n p.1)
 
 some_points : (xs ys : List (ℤ × (ℤ × ℤ))) → IsValid (Coordinates xs) → IsValid (Coordinates ys)

@@ -13,7 +13,7 @@ ghost use Rattle.dn_report.specs.Checks.{checked_rows};
 ghost use Rattle.dn_report.specs.FaultLines.{fault_line, unfit_line};
 ghost use Rattle.dn_report.specs.Verdicts.{verdict_row};
 
-use dn_instance::{CompanionFault, Place, Refusal};
+use dn_instance::{CompanionFault, Refusal};
 use dn_line::Code;
 
 /// Pairs are printed by rising pair, with what their arcs mean, and `lines` counts all arcs. An arc that carries

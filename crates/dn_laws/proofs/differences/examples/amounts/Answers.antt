@@ -3,7 +3,7 @@ use Rattle.dn_arc.specs.declared.arc.CostArc.{CostArc}
 use Rattle.dn_arc.specs.declared.difference.How.TheVariants.{Costs}
 use Rattle.dn_arc.specs.Meanings.{SameCurve}
 use Rattle.dn_arc.specs.Pairs.{bundle, pair_cmp}
-use Rattle.dn_arc.proofs.CostKindLaws.{cost_kind}
+use Rattle.dn_arc.proofs.CostKindLaws.{cost_differs}
 use Rattle.dn_arc.proofs.CurvesLaws.{curve_meaning}
 use Rattle.dn_arc.proofs.FillMeaningsLaws.{same_by_parts}
 use Rattle.dn_arc.proofs.PairLaws.{pair_total}
@@ -40,7 +40,7 @@ returns c =
           (λ e. cc, (λ e. cc, (λ e. cc, (λ e. cc, tt))));
       forced_unit =
           costs_part
-          (cost_kind.same_differ parts one other other (Costs _)
+          (cost_differs.same_differ parts one other other (Costs _)
           (same_by_parts parts one (search rules) (search rules) refl refl refl) (curve_meaning.same_refl other)
           (right_gap (pos 1) (pos 1) (pos 2) ((pos 1, pos 1) ∷ []) (search rules) (pos 0) (pos 0) (pos 2)
           ((pos 1, pos 2) ∷ []) (search rules) (search rules))) (λ e. cc, (λ e. cc, tt));

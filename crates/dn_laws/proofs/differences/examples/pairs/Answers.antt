@@ -1,6 +1,7 @@
 use Rattle.std.proofs.Common.{inl, inr, ℤ, pos, [], ◌∷◌, Some, refl, rules}
 use Rattle.dn_arc.specs.declared.arc.LengthArc.{LengthArc}
 use Rattle.dn_arc.specs.Lengths.{LeastLength}
+use Rattle.dn_arc.specs.Differences.{TotalsDiffer}
 use Rattle.dn_arc.specs.Kinds as Arcs
 use Rattle.dn_arc.proofs.LengthsLaws.{length_meaning, lone}
 use Rattle.dn_arc.proofs.TotalKindLaws.{total_kind}
@@ -35,6 +36,6 @@ returns c =
       by_dst = lengths_part (lone _, lone _, λ e. cc) (λ e. cc, (λ e. cc, (λ e. cc, (λ e. cc, tt))));
       capacities =
           max_pairs _ _ _ _ _ _ _ refl refl refl
-          (arcs_part Arcs.capacities total_kind (refl, refl, λ e. cc)
+          (arcs_part Arcs.capacities TotalsDiffer total_kind (refl, refl, λ e. cc)
           (λ e. cc, (λ e. cc, (λ e. cc, (λ e. cc, (λ e. cc, (λ e. cc, tt)))))));
     }
