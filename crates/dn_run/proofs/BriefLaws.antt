@@ -15,10 +15,10 @@ use Rattle.dn_run.specs.Answers.{Answer, Done, Refused, Unfit, Cut}
 use Rattle.dn_run.specs.Details.{Detail, in_brief, known_text}
 use Rattle.dn_run.specs.FilesRuns.{FilesRun, in_full, text_asked}
 use Rattle.dn_run.specs.Outcomes.{IsRefusedAs, OnText, OnTwoTexts, RanOn, RanOnSome, RanOnTwo}
-use Rattle.dn_run.specs.Runs.{CommandRun, IsRefusedRun, Performs}
+use Rattle.dn_run.specs.Runs.{IsRefusedRun, Performs}
 use Rattle.dn_run.specs.Streams.{SinkRun}
 use Rattle.dn_run.specs.Texts.{AskedText, IsRefusedCanon, IsRefusedCopy, IsRefusedText, unopened}
-use Rattle.dn_run.specs.Words.{AskedRun, LacksMemory, Ran, RequestRun}
+use Rattle.dn_run.specs.Words.{AskedRun, Ran, RequestRun}
 use Rattle.dn_run.proofs.OutcomeLaws.{by_behind}
 
 -- a text, of which only the bytes are said
@@ -101,7 +101,8 @@ module _ {S : Type 0} (Puts : List ℕ → Instance → Instance → ℕ → Lis
   Right text I b answer = OnText (λ c J. Puts b I J) (Unfits I) (IsRefusedText text) text out answer
 
   abbrev Left : (List ℕ → Refusal → Type 0) → AskedText → Answer → List ℕ → Type 0
-  Left Refuses text answer b = IsRefusedAs Refuses left.name b answer ⊎ ((I : Instance) × Reads b I × Right text I b answer)
+  Left Refuses text answer b =
+      IsRefusedAs Refuses left.name b answer ⊎ ((I : Instance) × Reads b I × Right text I b answer)
 
   ran_on_two : (answer : Answer) → RanOnTwo Puts Unfits (IsRefusedText right) right.name out answer
       → RanOnTwo Puts Unfits (IsRefusedText (known right)) right.name out answer
@@ -189,5 +190,4 @@ module _ {F T S E : Type 0} (files : FilesRun F T) (out : SinkRun S) (err : Sink
   ran_brief words number r = record {
     asked = λ asked plain. asked_brief asked number (r.asked asked plain);
     other = λ none. let (request, is, run) = r.other none in (request, tt, request_brief request number run);
-    out_by_status = r.out_by_status;
   }

@@ -54,7 +54,7 @@ pub does_refuse : {F T S : Type 0} {files : FilesFacts F T} {source : SourceFact
     → Performs (in_full (files_run files source both)) (sink_run out (sink, sink)) asked (Refused name refusal)
     → IsAnswerTo asked (Refused name refusal) → Does files source out asked both (sink, sink) result
 does_refuse result stop e is performs answers =
-    rw e (record { performs = rw is performs; out_after = rw is refl; answers = rw is answers; flushed = tt })
+    rw e (record { performs = rw is performs; out_after = rw is refl; answers = rw is answers })
 
 -- if P implies Q of what is known, and P holds of it if there is any, so does Q
 pub by_behind : {X : Type 0} {P Q : X → Type 0} (behind : Option X) → ((x : X) → behind ≡ Some x → P x → Q x)

@@ -10,7 +10,7 @@ use Rattle.dn_instance.proofs.FirstFaults.{not_both}
 use Rattle.dn_instance.proofs.ValidLaws.{some_is}
 use Rattle.dn_canon.specs.CanonTexts.{IsTooLarge}
 use Rattle.dn_command.specs.Commands.{Asked, Show, Check, Canon, Compare, asks, names_twice, plain_asked}
-use Rattle.dn_run.specs.Answers.{Answer, Done, Refused, Unfit, Cut, refusal_status, status_of, OutByStatus, Tells}
+use Rattle.dn_run.specs.Answers.{Answer, Done, Refused, Unfit, Cut, refusal_status, status_of, Tells}
 use Rattle.dn_run.specs.Details.{Detail, in_brief, known_text}
 use Rattle.dn_run.specs.FilesRuns.{FilesRun, files_run, in_full}
 use Rattle.dn_run.specs.Outcomes.{IsRefusedAs, OnText, OnTwoTexts, RanOn}
@@ -156,11 +156,8 @@ run_once files source out err asked both_files both_outs done number once does s
 pub ran : {F T S E : Type 0} (words : List (List ℕ)) (files : FilesRun F T) (out : SinkRun S) (err : SinkRun E)
     (command : Command) (number : ℕ) → ((asked : Asked) → plain_asked words ≡ Some asked → asks command ≡ asked)
     → (plain_asked words ≡ None → IsReadByClap words (requests.Command command))
-    → AskedRun (in_full files) out err (asks command) number → OutByStatus out number
-    → Ran words (in_full files) out err number
-ran words files out err command number plain other asked out_by_status =
-    record {
-      asked = λ a is. rw (plain a is) at asked;
-      other = λ none. (requests.Command command, other none, asked);
-      out_by_status = out_by_status;
-    }
+    → AskedRun (in_full files) out err (asks command) number → Ran words (in_full files) out err number
+ran words files out err command number plain other asked = record {
+  asked = λ a is. rw (plain a is) at asked;
+  other = λ none. (requests.Command command, other none, asked);
+}

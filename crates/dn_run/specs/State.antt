@@ -3,3 +3,4 @@ pub mod TextReads
 pub mod CommandRuns
 pub mod Findings
 pub mod NotAccepted
+pub mod OutByStatus

@@ -1,5 +1,5 @@
--- What a run did with the source of a text, if the text is refused for a reason that is not in its bytes (this project's
--- profile).
+-- What a run did with the source of a text, if the text is refused for a reason that is not in its bytes (this
+-- project's profile).
 use Rattle.std.specs.Prelude.{◌≡◌, ℕ, ◌<◌, ◌≤◌, ◌^◌, List, ◌++◌, length, Option, Some, IsTrue}
 use Rattle.dn_line.specs.Sources.{SourceFacts}
 use Rattle.dn_instance.specs.Readers.{ended}

@@ -7,7 +7,7 @@ use Rattle.dn_command.specs.Commands.{Asked, asks, names_twice, plain_asked}
 use Rattle.dn_command.specs.declared.request.Request.{Request}
 use Rattle.dn_command.specs.declared.request.Request.TheVariants as requests
 use Rattle.dn_report.specs.FaultLines.{fault_line}
-use Rattle.dn_run.specs.Answers.{Answer, Done, Cut, OutByStatus, Tells, status_of}
+use Rattle.dn_run.specs.Answers.{Answer, Done, Cut, OutAfter, Tells, status_of}
 use Rattle.dn_run.specs.Details.{Detail}
 use Rattle.dn_run.specs.Runs.{CommandRun, IsRefusedRun}
 use Rattle.dn_run.specs.Streams.{SinkRun, TakesLine}
@@ -33,12 +33,13 @@ abbrev pub PutsAll : {S : Type 0} → SinkRun S → List ℕ → Answer → Type
 PutsAll out t answer = ((answer ≡ Done 0) × Appends (out.facts.taken out.old) (out.facts.taken out.new) t)
     ⊎ ((answer ≡ Cut) × PutsPrefix out.facts out.old out.new t)
 
--- what a run does that prints this text: it puts the text on `out`, and the status is 0; or `out` has failed, the
--- status is 4, and the run puts the line of this failure on `err`
+-- what a run does that prints this text: it puts the text on `out`, which passes it on, and the status is 0; or `out`
+-- has failed, the status is 4, and the run puts the line of this failure on `err`
 pub record PrintsText {S E : Type 0} (t : List ℕ) (out : SinkRun S) (err : SinkRun E) (number : ℕ) : Type 0 where
   pub answer : Answer
   pub status_is : number ≡ status_of answer
   pub puts : PutsAll out t answer
+  pub out_after : OutAfter out answer
   pub tells : Tells err answer
 
 -- what a run does if memory runs out when it reads its words: the status is 4, the run puts the line of this refusal on
@@ -59,11 +60,9 @@ RequestRun detail out err requests.Bad number = IsRefusedRun detail out err bad_
 RequestRun detail out err requests.Memory number = LacksMemory detail out err number
 
 -- what a run does for these words, the program's name first. If they are a plain form of a command, it runs that
--- command. For other words it does what some request asks for, which `detail` may say is right for them. The exit status
--- says what the run has done to `out`
+-- command. For other words it does what some request asks for, which `detail` may say is right for them
 pub record Ran {S E : Type 0} (words : List (List ℕ)) (detail : Detail) (out : SinkRun S) (err : SinkRun E)
     (number : ℕ) : Type 0 where
   pub asked : (asked : Asked) → plain_asked words ≡ Some asked → AskedRun detail out err asked number
   pub other : plain_asked words ≡ None → (request : Request) × detail.IsRequest words request
       × RequestRun detail out err request number
-  pub out_by_status : OutByStatus out number

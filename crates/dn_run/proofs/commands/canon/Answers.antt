@@ -15,9 +15,8 @@ returns-in-Ok g c =
             let (J, canon, put) = c.in-Ok.ensures.canon I (reads_valid b I reads) is in
             (I, reads, print J, (refl, (J, record { canon = canon; text_is = refl })), added put.0));
       };
-      out_after = c.in-Ok.ensures.after;
+      out_after = (c.in-Ok.ensures.flushed, c.in-Ok.ensures.after);
       answers = refl;
-      flushed = c.in-Ok.ensures.flushed;
     })
 
 pub returns-in-Err : goal.returns-in-Err
@@ -35,7 +34,6 @@ returns-in-Err g c =
           (canon_after g.O.Sink.sink c.args.out.now _ c.args.name.now _ c.in-Err.ensures.after);
       answers =
           rw c.unwritten.ensures (unwritten_answers c.args.form c.args.name.now _ c.in-Err.ensures.refusal);
-      flushed = tt;
     })
 
 pub returns-in_err-held : goal.returns-in_err-held
