@@ -1,2 +1,3 @@
 // Runs of the program.
+pub mod examples;
 pub mod laws;
