@@ -12,8 +12,7 @@
        ..
        dnorm_free(&graph);
 
-   Each function but dnorm_abi is proved to do what its comment says, if the caller keeps these rules, which nothing
-   checks:
+   Each function is proved to do what its comment says, if the caller keeps these rules, which nothing checks:
 
    1. A `dnorm` begins as DNORM_NONE, which is all zeros. Only these functions change it. It is passed by its address,
       and is not copied: both copies would own the same memory. A move is allowed if the old place is not used again.
@@ -28,14 +27,14 @@
    The order of calls is free: a call that a `dnorm` is not for changes nothing, and returns DNORM_WRONG_CALL, the kind
    DNORM_NO_KIND, or DNORM_NOT_BOTH.
 
-   Some things are tested, and not proved. Of rule 3 it is proved that a call with a `const dnorm *` has that `dnorm` on
-   loan, that a loan can be given any number of times, and that nothing is written through it; that several threads read
-   one `dnorm` at once is tested. So are these: dnorm_free frees all memory that a `dnorm` owns. No call opens a file,
-   writes to a stream, or keeps anything outside of the `dnorm` that it is given, and no byte of a piece is kept. No
-   call needs more stack than rule 5 says. dnorm_facts takes the same time for any instance; dnorm_arc_count walks over
-   the pairs; dnorm_next and dnorm_columns search for their place, and then walk over what they copy; dnorm_items may
-   also walk over the items before its place, so let it copy all of them. Nor are the macros at the end of dnorm.h
-   proved, which allow null pointers where there is no room. */
+   Some things are tested, and not proved. Of rule 3 it is proved that a call with a `const dnorm *` has that `dnorm`
+   on loan, that a loan can be given any number of times, and that nothing is written through it; that several threads
+   read one `dnorm` at once is tested. So are these: dnorm_finish frees the reader, and dnorm_free all memory that a
+   `dnorm` owns. No call opens a file, writes to a stream, or keeps anything outside of the `dnorm` that it is given,
+   and no byte of a piece is kept. No call needs more stack than rule 5 says. dnorm_facts takes the same time for any
+   instance; dnorm_arc_count walks over the pairs; dnorm_next and dnorm_columns search for their place, and then walk
+   over what they copy; dnorm_items may also walk over the items before its place, so let it copy all of them. Nor are
+   the macros at the end of dnorm.h proved, which allow null pointers where there is no room. */
 #ifndef DNORM_H
 #define DNORM_H
 #include <stdbool.h>

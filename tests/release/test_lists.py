@@ -20,7 +20,7 @@ WRITTEN = [
     ("crates/dn_line/src/code.rt", "Code::LateNode => 60", "Code::LateNode => 65"),
     ("crates/dn_line/src/code.rt", "1 to 21", "1 to 22"),
     ("crates/dn_line/specs/State/Ranks.antt", "code_rank LateNode = 60", "code_rank LateNode = 65"),
-    ("crates/dn_line/specs/Names.antt", "code_number LateNode = 6", "code_number LateNode = 8"),
+    ("crates/dn_line/specs/Names.antt", "LateNode = (6,", "LateNode = (8,"),
     ("crates/dn_line/specs/Names.antt", 'codes "TooLong"', 'codes "TooLon"'),
     ("crates/dn_line/specs/Names.antt", "LateNode, TooMany", "TooMany"),
     ("crates/dn_tests/src/commands.rt", "    Code::LateNode,\n", ""),

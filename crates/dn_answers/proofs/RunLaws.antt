@@ -1,16 +1,15 @@
 -- What a run of `canon` has written has the answers of its input.
-use Rattle.std.proofs.Common.{◌≡◌, ◌⊎◌, ℕ, List, Option, Some, None, IfSome, refl, sym, inl, inr}
+use Rattle.std.proofs.Common.{◌≡◌, ◌⊎◌, ℕ, List, Option, Some, IfSome, refl, sym, inl, inr}
 use Rattle.dn_arc.specs.declared.arc.Form.{Form}
 use Rattle.dn_instance.specs.declared.refusal.Refusal.{Refusal}
 use Rattle.dn_instance.specs.declared.refusal.Refusal.TheVariants.{Text, Memory, Read, Endless, Write, CountTooLarge}
 use Rattle.dn_command.specs.Commands.{Canon, Compare, plain_asked}
 use Rattle.dn_run.specs.Answers.{Answer, Done, Refused, Unfit, Cut, status_of, refusal_status}
-use Rattle.dn_run.specs.FilesRuns.{FilesRun, text_asked}
+use Rattle.dn_run.specs.Details.{in_brief, known_text}
 use Rattle.dn_run.specs.Outcomes.{IsRefusedAs, OnText, OnTwoTexts}
 use Rattle.dn_run.specs.Runs.{CommandRun, Never, PutsCanon, PutsCompared}
 use Rattle.dn_run.specs.Streams.{SinkRun}
-use Rattle.dn_run.specs.Texts.{AskedText, IsRefusedCanon, IsRefusedText, unopened}
-use Rattle.dn_files.specs.declared.files.FilesFault.{FilesFault}
+use Rattle.dn_run.specs.Texts.{AskedText, IsRefusedCanon, IsRefusedText}
 use Rattle.dn_run.specs.Words.{Ran}
 use Rattle.dn_instance.specs.Instances.{Instance}
 use Rattle.dn_instance.specs.Texts.{Reads}
@@ -27,44 +26,41 @@ no_refusal Endless h = cc
 no_refusal Write h = cc
 no_refusal CountTooLarge h = cc
 
--- a text of which the command is done was handed out
-handed_out : (name : List ℕ) (status : ℕ) (fault : Option FilesFault)
-    → IfSome fault (λ f. Done status ≡ Refused name (unopened f)) → fault ≡ None
-handed_out name status None h = refl
-handed_out name status (Some f) h = cc
-
-by_answer : {T S : Type 0} (text : AskedText T) (out : SinkRun S) (form : Form) (b : List ℕ) (answer : Answer)
-    → 0 ≡ status_of answer → OnText (PutsCanon form) (λ _. Never) (IsRefusedCanon form text) text out answer
-    → text.behind ≡ Some b → WroteAnswersOf (out.facts.taken out.old) (out.facts.taken out.new) b
-by_answer text out form b (Done status) h on known =
-    let (I, reads, t, puts, took) = rw known at (on.handed (handed_out text.name status text.fault on.not_handed)) in
+by_answer : {S : Type 0} (name : List ℕ) (behind : Option (List ℕ)) (out : SinkRun S) (form : Form) (b : List ℕ)
+    (answer : Answer) → 0 ≡ status_of answer
+    → OnText (PutsCanon form) (λ _. Never) (IsRefusedCanon form (known_text name behind)) (known_text name behind) out
+    answer
+    → behind ≡ Some b → WroteAnswersOf (out.facts.taken out.old) (out.facts.taken out.new) b
+by_answer name behind out form b (Done status) h on known =
+    let (I, reads, t, puts, took) = rw known at (on.handed refl) in
     record { text = t; took = took; read = I; reads = reads; answers = text_answers form b t I reads puts.1 }
-by_answer text out form b (Refused name e) h on known = no_refusal e h
-by_answer text out form b (Unfit name fault) h on known = cc
-by_answer text out form b Cut h on known = cc
+by_answer name behind out form b (Refused of e) h on known = no_refusal e h
+by_answer name behind out form b (Unfit of fault) h on known = cc
+by_answer name behind out form b Cut h on known = cc
 
 -- if a run of `canon` ends with status 0, `out` took a text with the answers of the bytes behind the name
-pub canon_answers_kept : {F T S E : Type 0} (files : FilesRun F T) (out : SinkRun S) (err : SinkRun E)
-    (name b : List ℕ) (form : Form) → CommandRun files out err (Canon name form) 0
-    → files.facts.behind files.old name ≡ Some b
+pub canon_answers_kept : {S E : Type 0} (behind : List ℕ → Option (List ℕ)) (out : SinkRun S) (err : SinkRun E)
+    (name b : List ℕ) (form : Form) → CommandRun (in_brief behind) out err (Canon name form) 0 → behind name ≡ Some b
     → WroteAnswersOf (out.facts.taken out.old) (out.facts.taken out.new) b
-canon_answers_kept files out err name b form run known =
-    by_answer (text_asked files files.old files.new name) out form b run.answer run.status_is run.performs.means known
+canon_answers_kept behind out err name b form run known =
+    by_answer name (behind name) out form b run.answer run.status_is run.performs known
 
 -- the same of a run for words that are a plain form of `canon`
-pub words_answers_kept : {F T S E : Type 0} (words : List (List ℕ)) (files : FilesRun F T) (out : SinkRun S)
+pub words_answers_kept : {S E : Type 0} (words : List (List ℕ)) (behind : List ℕ → Option (List ℕ)) (out : SinkRun S)
     (err : SinkRun E) (name b : List ℕ) (form : Form) → plain_asked words ≡ Some (Canon name form)
-    → Ran words files out err 0 → files.facts.behind files.old name ≡ Some b
+    → Ran words (in_brief behind) out err 0 → behind name ≡ Some b
     → WroteAnswersOf (out.facts.taken out.old) (out.facts.taken out.new) b
-words_answers_kept words files out err name b form plain run known =
-    canon_answers_kept files out err name b form ((run.asked (Canon name form) plain).once refl) known
+words_answers_kept words behind out err name b form plain run known =
+    canon_answers_kept behind out err name b form ((run.asked (Canon name form) plain).once refl) known
 
 -- a right text that was compared as the same problem as an instance
-by_right : {T S : Type 0} (text : AskedText T) (out : SinkRun S) (b c : List ℕ) (I : Instance) (n : ℕ) → 0 ≡ n
-    → Reads b I → OnText (λ x J. PutsCompared I J) (λ _. Never) (IsRefusedText text) text out (Done n)
-    → text.behind ≡ Some c → PosedSameAnswers b c
-by_right text out b c I n zero reads on known =
-    let (J, right, t, puts, took) = rw known at (on.handed (handed_out text.name n text.fault on.not_handed)) in
+by_right : {S : Type 0} (name : List ℕ) (behind : Option (List ℕ)) (out : SinkRun S) (b c : List ℕ) (I : Instance)
+    (n : ℕ) → 0 ≡ n → Reads b I
+    → OnText (λ x J. PutsCompared I J) (λ _. Never) (IsRefusedText (known_text name behind)) (known_text name behind)
+    out (Done n)
+    → behind ≡ Some c → PosedSameAnswers b c
+by_right name behind out b c I n zero reads on known =
+    let (J, right, t, puts, took) = rw known at (on.handed refl) in
     record {
       left = I;
       right = J;
@@ -77,34 +73,32 @@ by_right text out b c I n zero reads on known =
 at_known : (P : List ℕ → Type 0) (a : List ℕ) (o : Option (List ℕ)) → o ≡ Some a → IfSome o P → P a
 at_known P a o e h = rw e at h
 
-by_sum : {T S : Type 0} (left right : AskedText T) (out : SinkRun S) (b c : List ℕ) (n : ℕ) → 0 ≡ n
-    → IsRefusedAs (IsRefusedText left) left.name b (Done n)
-    ⊎ ((I : Instance) × Reads b I
-    × OnText (λ x J. PutsCompared I J) (λ _. Never) (IsRefusedText right) right out (Done n))
-    → right.behind ≡ Some c → PosedSameAnswers b c
-by_sum left right out b c n zero (inl (refusal, e, h)) other = cc
-by_sum left right out b c n zero (inr (I, reads, on)) other = by_right right out b c I n zero reads on other
+module _ {S : Type 0} (behind : List ℕ → Option (List ℕ)) (left right : List ℕ) (out : SinkRun S) (c : List ℕ) where
+  abbrev text : List ℕ → AskedText
+  text name = known_text name (behind name)
 
-by_left : {T S : Type 0} (left right : AskedText T) (out : SinkRun S) (b c : List ℕ) (answer : Answer)
-    → 0 ≡ status_of answer
-    → OnTwoTexts (λ _. PutsCompared) (λ _ _. Never) (IsRefusedText left) left right out answer
-    → left.behind ≡ Some b → right.behind ≡ Some c → PosedSameAnswers b c
-by_left left right out b c (Done n) h on known other =
-    by_sum left right out b c n h
-    (at_known (λ x. IsRefusedAs (IsRefusedText left) left.name x (Done n)
-    ⊎ ((I : Instance) × Reads x I
-    × OnText (λ y J. PutsCompared I J) (λ _. Never) (IsRefusedText right) right out (Done n)))
-    b left.behind known (on.handed (handed_out left.name n left.fault on.not_handed))) other
-by_left left right out b c (Refused name e) h on known other = no_refusal e h
-by_left left right out b c (Unfit name fault) h on known other = cc
-by_left left right out b c Cut h on known other = cc
+  -- the left text is refused, or reads as an instance with which the right one was compared
+  abbrev AtLeft : ℕ → List ℕ → Type 0
+  AtLeft n b = IsRefusedAs (IsRefusedText (text left)) left b (Done n)
+      ⊎ ((I : Instance) × Reads b I
+      × OnText (λ y J. PutsCompared I J) (λ _. Never) (IsRefusedText (text right)) (text right) out (Done n))
+
+  by_sum : (b : List ℕ) (n : ℕ) → 0 ≡ n → AtLeft n b → behind right ≡ Some c → PosedSameAnswers b c
+  by_sum b n zero (inl (refusal, e, h)) other = cc
+  by_sum b n zero (inr (I, reads, on)) other = by_right right (behind right) out b c I n zero reads on other
+
+  by_left : (b : List ℕ) (answer : Answer) → 0 ≡ status_of answer
+      → OnTwoTexts (λ _. PutsCompared) (λ _ _. Never) (IsRefusedText (text left)) (text left) (text right) out answer
+      → behind left ≡ Some b → behind right ≡ Some c → PosedSameAnswers b c
+  by_left b (Done n) h on known other =
+      by_sum b n h (at_known (AtLeft n) b (behind left) known (on.handed refl)) other
+  by_left b (Refused name e) h on known other = no_refusal e h
+  by_left b (Unfit name fault) h on known other = cc
+  by_left b Cut h on known other = cc
 
 -- if a run of `compare` ends with status 0, both texts have the same answers
-pub compared_same : {F T S E : Type 0} (files : FilesRun F T) (out : SinkRun S) (err : SinkRun E)
-    (left right b c : List ℕ) → CommandRun files out err (Compare left right) 0
-    → files.facts.behind files.old left ≡ Some b → files.facts.behind files.old right ≡ Some c
-    → PosedSameAnswers b c
-compared_same files out err left right b c run known other =
-    let two = run.performs in
-    by_left (text_asked files files.old two.mid left) (text_asked files two.mid files.new right) out b c run.answer
-    run.status_is two.means known other
+pub compared_same : {S E : Type 0} (behind : List ℕ → Option (List ℕ)) (out : SinkRun S) (err : SinkRun E)
+    (left right b c : List ℕ) → CommandRun (in_brief behind) out err (Compare left right) 0
+    → behind left ≡ Some b → behind right ≡ Some c → PosedSameAnswers b c
+compared_same behind out err left right b c run known other =
+    by_left behind left right out c b run.answer run.status_is run.performs known other

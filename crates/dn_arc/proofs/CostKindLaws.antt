@@ -8,10 +8,10 @@ use Rattle.dn_arc.specs.declared.arc.Form.TheVariants.{One, Two}
 use Rattle.dn_arc.specs.declared.difference.Gap.{Gap}
 use Rattle.dn_arc.specs.declared.difference.How.{How}
 use Rattle.dn_arc.specs.declared.difference.How.TheVariants.{Costs}
-use Rattle.dn_arc.specs.Entries.{SpreadsForced}
+use Rattle.dn_arc.specs.Entries.{SpreadsForced, cost_sizes}
 use Rattle.dn_arc.specs.Fillings.{forced_units}
 use Rattle.dn_arc.specs.Kinds.{costs}
-use Rattle.dn_arc.specs.State.Bundles.{IsKind, IsDetermined}
+use Rattle.dn_arc.specs.State.Bundles.{AreDifferences, AreSizes, IsKind, IsDetermined}
 use Rattle.dn_arc.specs.Splits.{LeastCost, cost_cap}
 use Rattle.dn_arc.specs.Meanings.{SameCurve}
 use Rattle.dn_arc.specs.Canonical.{IsCostArc, AreCanonCosts}
@@ -117,10 +117,18 @@ cost_kind = record {
   none_canon = none_canon;
   nothing_listed = λ form xs c s. determination_of_forms form xs [] c (none_canon form) s;
   same_capacity = cost_cap_same;
+}
+
+pub cost_sized : AreSizes costs cost_sizes
+cost_sized = record {
   same_entries = entries_same;
   same_spreads = same_spreads;
   none_entries = refl;
   no_entries = no_curve;
+}
+
+pub cost_differs : AreDifferences costs CurvesDiffer
+cost_differs = record {
   none_differ = curves_differ;
   one_differ = one_differ;
   same_differ = same_differ;

@@ -7,11 +7,11 @@ use Rattle.dn_arc.specs.declared.arc.LengthArc.{LengthArc}
 use Rattle.dn_arc.specs.declared.difference.How.{How}
 use Rattle.dn_arc.specs.declared.difference.How.TheVariants.{Lengths}
 use Rattle.dn_arc.specs.Kinds.{lengths}
-use Rattle.dn_arc.specs.State.Bundles.{IsKind, IsDetermined, NumbersFit}
+use Rattle.dn_arc.specs.State.Bundles.{AreDifferences, AreSizes, IsKind, IsDetermined, NumbersFit}
 use Rattle.dn_arc.specs.Meanings.{SameLength}
 use Rattle.dn_arc.specs.Canonical.{AreCanonLengths}
 use Rattle.dn_arc.specs.Differences.{LengthsDiffer}
-use Rattle.dn_arc.specs.Entries.{length_entries}
+use Rattle.dn_arc.specs.Entries.{length_entries, length_sizes}
 use Rattle.dn_arc.specs.State.SingleArcs.{length_listed}
 use Rattle.dn_arc.proofs.LengthsLaws.{length_meaning, lengths_determined, lengths_differ, length_of_one, length_of_same, first_length}
 
@@ -61,10 +61,18 @@ length_kind = record {
   none_canon = λ form. tt;
   nothing_listed = λ form xs c s. lengths_determined xs [] c tt s;
   same_capacity = λ xs ys h g s. refl;
+}
+
+pub length_sized : AreSizes lengths length_sizes
+length_sized = record {
   same_entries = λ xs ys h g s. same_entries xs ys s;
   same_spreads = λ xs ys a h g s m. m;
   none_entries = refl;
   no_entries = no_entries;
+}
+
+pub length_differs : AreDifferences lengths LengthsDiffer
+length_differs = record {
   none_differ = lengths_differ;
   one_differ = one_differ;
   same_differ = same_differ;

@@ -9,9 +9,9 @@ use Rattle.dn_arc.specs.declared.arc.CapArc.{CapArc}
 use Rattle.dn_arc.specs.declared.difference.How.{How}
 use Rattle.dn_arc.specs.declared.difference.How.TheVariants.{Totals}
 use Rattle.dn_arc.specs.Kinds.{capacities}
-use Rattle.dn_arc.specs.State.Bundles.{IsKind, IsDetermined, NumbersFit}
+use Rattle.dn_arc.specs.State.Bundles.{AreDifferences, AreSizes, IsKind, IsDetermined, NumbersFit}
 use Rattle.dn_arc.specs.Capacities.{total_cap}
-use Rattle.dn_arc.specs.Entries.{cap_entries}
+use Rattle.dn_arc.specs.Entries.{cap_entries, cap_sizes}
 use Rattle.dn_arc.specs.State.SingleArcs.{cap_listed}
 use Rattle.dn_arc.specs.Meanings.{SameTotal}
 use Rattle.dn_arc.specs.Canonical.{IsCapArc, AreCanonCaps}
@@ -68,10 +68,18 @@ total_kind = record {
   none_canon = λ form. tt;
   nothing_listed = λ form xs c s. totals_determined xs [] c tt s;
   same_capacity = λ xs ys h g s. s.is;
+}
+
+pub total_sized : AreSizes capacities cap_sizes
+total_sized = record {
   same_entries = λ xs ys h g s. ap (λ z. cond (int_lt (pos 0) z) 1 0) s.is;
   same_spreads = λ xs ys a h g s m. m;
   none_entries = refl;
   no_entries = λ xs h e. record { is = no_total xs h e };
+}
+
+pub total_differs : AreDifferences capacities TotalsDiffer
+total_differs = record {
   none_differ = totals_differ;
   one_differ = one_differ;
   same_differ = same_differ;

@@ -1,17 +1,14 @@
 -- What the three kinds of graphs have in common: an arc is a list of numbers, and parallel arcs have a meaning together
 -- (this project's profile).
-use Rattle.std.specs.Prelude.{ℕ, ℤ, pos, List, [], ◌∷◌, Option, Some, None}
+use Rattle.std.specs.Prelude.{ℤ, pos, List, [], ◌∷◌, Option, Some, None}
 use Rattle.dn_arc.specs.Capacities.{total_cap}
 use Rattle.dn_arc.specs.Splits.{cost_cap}
 use Rattle.dn_arc.specs.Meanings.{SameLength, SameTotal, SameCurve}
 use Rattle.dn_arc.specs.Canonical.{IsCapArc, IsCostArc, AreCanonLengths, AreCanonCaps, AreCanonCosts}
-use Rattle.dn_arc.specs.Differences.{LengthsDiffer, TotalsDiffer, CurvesDiffer}
-use Rattle.dn_arc.specs.Entries.{length_entries, cap_entries, cost_entries, SpreadsForced}
 use Rattle.dn_arc.specs.declared.arc.LengthArc.{LengthArc}
 use Rattle.dn_arc.specs.declared.arc.CapArc.{CapArc}
 use Rattle.dn_arc.specs.declared.arc.CostArc.{CostArc}
 use Rattle.dn_arc.specs.declared.arc.Form.{Form}
-use Rattle.dn_arc.specs.declared.difference.How.{How}
 
 -- a kind of arcs consists of these definitions
 pub record ArcKind (Arc : Type 0) : Type 1 where
@@ -27,12 +24,6 @@ pub record ArcKind (Arc : Type 0) : Type 1 where
   pub Same : List Arc → List Arc → Type 0
   -- the arcs are the canonical arcs of one pair in this form
   pub IsCanon : Form → List Arc → Type 0
-  -- how many entries the arcs of one pair make
-  pub entries : List Arc → ℕ
-  -- one more arc of the pair needs memory, even if it makes no entry
-  pub Spreads : List Arc → Arc → Type 0
-  -- the first difference in meaning between two lists of arcs of one pair
-  pub Differ : List Arc → List Arc → How → Type 0
 
 -- an `sp` arc has one number, LENGTH
 abbrev pub length_arc : List ℤ → Option LengthArc
@@ -58,9 +49,6 @@ lengths = record {
   capacity = λ arcs. pos 0;
   Same = SameLength;
   IsCanon = λ form. AreCanonLengths;
-  entries = length_entries;
-  Spreads = λ arcs a. ⊥;
-  Differ = LengthsDiffer;
 }
 
 -- the arcs of `max` problems, which have capacities
@@ -72,9 +60,6 @@ capacities = record {
   capacity = total_cap;
   Same = SameTotal;
   IsCanon = λ form. AreCanonCaps;
-  entries = cap_entries;
-  Spreads = λ arcs a. ⊥;
-  Differ = TotalsDiffer;
 }
 
 -- the arcs of `min` problems, which have costs
@@ -86,7 +71,4 @@ costs = record {
   capacity = cost_cap;
   Same = SameCurve;
   IsCanon = AreCanonCosts;
-  entries = cost_entries;
-  Spreads = SpreadsForced;
-  Differ = CurvesDiffer;
 }

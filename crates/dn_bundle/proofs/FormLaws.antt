@@ -1,10 +1,11 @@
 -- The first canonical arc of a curve and the arc after each, in form 1 and in form 2, by its fixed arcs and its
 -- breakpoints. If a fixed arc and a breakpoint make one arc, its capacity fits 64 bits.
-use Rattle.std.proofs.Common.{◌≡◌, ℕ, suc, zero, ◌+◌, ◌-◌, ◌^◌, ◌≤◌, ℤ, pos, ◌+ℤ◌, ◌≤ℤ◌, ◌<ℤ◌, Bool, true, false, List, [], ◌∷◌, ◌++◌, map, find, slice_get, Option, Some, None, refl, sym, ap, ◌∙◌, subst, arith, inl, inr, w64, to_z, of_z, FitsSigned, int_lt, option_map, unwrap_or}
-use Rattle.std.specs.List.{AllByRecursion}
+use Rattle.std.proofs.Common.{◌≡◌, ℕ, suc, zero, ◌+◌, ◌-◌, ◌^◌, ◌≤◌, ℤ, pos, ◌+ℤ◌, ◌≤ℤ◌, ◌<ℤ◌, Bool, true, false, List, [], ◌∷◌, ◌++◌, map, find, slice_get, Option, Some, None, IfSome, refl, sym, ap, ◌∙◌, subst, arith, inl, inr, w64, to_z, of_z, FitsSigned, int_lt, option_map, unwrap_or}
+use Rattle.std.specs.List.{AllByRecursion, Contains}
 use Rattle.std.specs.Int.Signed.{≤ℤ_refl}
 use Rattle.std.proofs.lemmas.Bool.{cases_Bool}
 use Rattle.std.proofs.lemmas.Int.{ints, by_lt_z, to_z-of_z}
+use Rattle.std.proofs.lemmas.List.Elements.{All-contains_itself, Contains-append_left, Contains-append_right, recursion_from_All}
 use Rattle.dn_arc.specs.declared.arc.CostArc.{CostArc}
 use Rattle.dn_arc.specs.declared.arc.Form.TheVariants.{One, Two}
 use Rattle.dn_arc.specs.Canonical.{IsFixedArc, AreNear, AreRising}
@@ -248,6 +249,27 @@ find_holds P test xs x h e = subst (Holds P) e (among xs h)
     among [] h = tt
     among (y ∷ ys) h = elim (cases_Bool (test y)) [ inl t ↦ rw t h.0 | inr t ↦ rw t (among ys h.1) ]
 
+-- what is found in a list, and what is at a position of it, is an element of the list
+each_itself : {X : Type 0} (xs : List X) → AllByRecursion (Contains xs) xs
+each_itself xs = recursion_from_All (Contains xs) xs (All-contains_itself xs)
+
+pub found_in : {X : Type 0} (test : X → Bool) (xs : List X) (o : Option X) → o ≡ find test xs → IfSome o (Contains xs)
+found_in test xs None e = tt
+found_in test xs (Some x) e = find_holds (Contains xs) test xs x (each_itself xs) (sym e)
+
+pub at_in : {X : Type 0} (xs : List X) (i : ℕ) (o : Option X) → o ≡ slice_get xs i → IfSome o (Contains xs)
+at_in xs i None e = tt
+at_in xs i (Some x) e = get_holds (Contains xs) xs i x (each_itself xs) (sym e)
+
+-- an element of a part of a list is one of the whole
+in_left : {X : Type 0} (xs ys : List X) (o : Option X) → IfSome o (Contains xs) → IfSome o (Contains (xs ++ ys))
+in_left xs ys None h = tt
+in_left xs ys (Some x) h = Contains-append_left xs ys x h
+
+in_right : {X : Type 0} (xs ys : List X) (o : Option X) → IfSome o (Contains ys) → IfSome o (Contains (xs ++ ys))
+in_right xs ys None h = tt
+in_right xs ys (Some x) h = Contains-append_right xs ys x h
+
 some_same : (a b : CostArc) → Some a ≡ Some b → a ≡ b
 some_same a b e = ap (λ (o : Option CostArc). unwrap_or o a) e
 
@@ -382,6 +404,24 @@ module _ (units cost total : ℤ) (steps : List (ℤ × ℤ)) (s : IsSound units
       after_place (listed Two units cost steps) i a
       (listed_two units cost steps s.some (none_is units cost total steps s) s.rising).rising e
       ∙ at_next (listed Two units cost steps) i
+
+  -- the arcs that the code finds in form 1 are listed
+  pub past_free_in : (c : ℤ) (o : Option CostArc) → o ≡ option_map step_arc (step_past steps c)
+      → IfSome o (Contains (listed One units cost steps))
+  past_free_in c o e =
+      in_right (fixed_arcs units cost) (map step_arc steps) o
+      (found_in _ (map step_arc steps) o (e ∙ sym (past_steps steps c)))
+
+  pub first_free_in : (o : Option CostArc) → o ≡ option_map step_arc (slice_get steps 0)
+      → IfSome o (Contains (listed One units cost steps))
+  first_free_in o e =
+      in_right (fixed_arcs units cost) (map step_arc steps) o
+      (at_in (map step_arc steps) 0 o (e ∙ sym (first_step steps)))
+
+  pub past_fixed_in : (c : ℤ) (o : Option CostArc) → o ≡ arc_past c (fixed_arcs units cost)
+      → IfSome o (Contains (listed One units cost steps))
+  past_fixed_in c o e =
+      in_left (fixed_arcs units cost) (map step_arc steps) o (found_in _ (fixed_arcs units cost) o e)
 
   fixed_are : AllByRecursion (λ (b : CostArc). IsPart units b.cap) (fixed_arcs units cost)
   fixed_are = let u = is.units_is in fixed_parts units (fixed_arcs units cost) is.are.each (omega (arith, ints))

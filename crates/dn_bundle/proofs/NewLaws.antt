@@ -5,14 +5,13 @@ use Rattle.std.proofs.lemmas.Int.{ints, by_lt_z}
 use Rattle.dn_arc.specs.declared.arc.CostArc.{CostArc}
 use Rattle.dn_arc.specs.declared.arc.Form.TheVariants.{One}
 use Rattle.dn_arc.specs.Canonical.{IsCostArc}
-use Rattle.dn_arc.specs.Entries.{cost_entries}
-use Rattle.dn_arc.specs.Kinds.{costs}
+use Rattle.dn_arc.specs.Entries.{cost_entries, cost_sizes}
 use Rattle.dn_arc.specs.State.CanonArcs.{NeedsMore}
 use Rattle.dn_arc.specs.State.Steps.{steps_of, add_step, has_step}
 use Rattle.dn_arc.specs.State.CurveListed.{listed, IsSound}
 use Rattle.dn_arc.proofs.CanonsLaws.{length_put}
 use Rattle.dn_arc.proofs.PartsLaws.{test_yes, test_no}
-use Rattle.dn_arc.proofs.CostKindLaws.{cost_kind}
+use Rattle.dn_arc.proofs.CostKindLaws.{cost_sized}
 use Rattle.dn_arc.proofs.ListedLaws.{listed_units, listed_cost}
 use Rattle.dn_arc.proofs.ProductsLaws.{mul_suc, mul_mono}
 use Rattle.dn_arc.proofs.SoundLaws.{none_is, sound_arcs}
@@ -63,7 +62,7 @@ module _ (units cost total : ℤ) (steps : List (ℤ × ℤ)) (a : CostArc) (s :
 
   entries_next : cost_entries (listed One units cost steps ++ a ∷ []) ≡ one_if u + length next
   entries_next =
-      sym (cost_kind.same_entries (listed One u c next) (listed One units cost steps ++ a ∷ [])
+      sym (cost_sized.same_entries (listed One u c next) (listed One units cost steps ++ a ∷ [])
       (sound_arcs u c (total +ℤ a.cap) next sound One)
       (all_end IsCostArc (listed One units cost steps) a (sound_arcs units cost total steps s One) h)
       (grown_same units cost total steps a (total +ℤ a.cap) s h refl ft fk u c (total +ℤ a.cap) next refl refl refl
@@ -77,7 +76,7 @@ module _ (units cost total : ℤ) (steps : List (ℤ × ℤ)) (a : CostArc) (s :
       (λ le. rw (test_no (pos 0) (a.cap -ℤ a.low) le) (omega arith))
 
   -- if the curve needs memory for the arc, so do the arcs that it lists
-  pub needs_more : NeedsRoom units cost steps a → NeedsMore costs (listed One units cost steps) a
+  pub needs_more : NeedsRoom units cost steps a → NeedsMore cost_sizes (listed One units cost steps) a
   needs_more (forced none low) =
       let old = entries_listed units cost total steps s in
       inl (omega (arith, old, entries_next, forced_new units a.low none low, length_grows))

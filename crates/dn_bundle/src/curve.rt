@@ -10,8 +10,10 @@ ghost use Rattle.dn_arc.specs.Differences.{IsCostOf};
 ghost use Rattle.dn_arc.specs.State.CurveListed.{listed, fixed_arcs, step_arc, fixed_list, HasNext, is_free};
 ghost use Rattle.dn_bundle.specs.State.Gaps.{IsGapOf};
 ghost use Rattle.dn_bundle.specs.State.Shapes.{shape_numbers, AreSound, NeedsRoom};
+ghost use Rattle.dn_arc.specs.Differences.{CurvesDiffer};
+ghost use Rattle.dn_arc.specs.Entries.{cost_sizes};
 ghost use Rattle.dn_arc.proofs.SoundLaws.{IsSound-prop, sound_canonical, sound_same, sound_fit};
-ghost use Rattle.dn_arc.proofs.CostKindLaws.{cost_kind};
+ghost use Rattle.dn_arc.proofs.CostKindLaws.{cost_kind, cost_sized, cost_differs};
 ghost use Rattle.dn_arc.specs.declared.arc.Form.{Form};
 ghost use Rattle.dn_arc.specs.declared.difference.How.TheVariants.{Costs};
 ghost use Rattle.dn_bundle.specs.State.Listings.{curve_arcs, form_one_arcs};
@@ -216,9 +218,19 @@ fn by_costs(gap: Option<Gap>) -> Option<How>
 impl Bundle for Curve {
     type Arc = CostArc;
 
-    ghost bundle = { record { kind = costs; listed = curve_arcs; wants_memory = true } };
+    ghost bundle = { record {
+      kind = costs;
+      sizes = cost_sizes;
+      Differ = CurvesDiffer;
+      listed = curve_arcs;
+      wants_memory = true;
+    } };
 
     ghost laws = { cost_kind };
+
+    ghost sized = { cost_sized };
+
+    ghost differs = { cost_differs };
 
     ghost canonical = { λ form b. sound_canonical b.units b.cost b.total b.steps b.sound form };
 

@@ -5,7 +5,9 @@ ghost use Rattle.std.specs.Option.{option_copied, option_map};
 ghost use Rattle.dn_arc.specs.Kinds.{lengths};
 ghost use Rattle.dn_arc.specs.Lengths.{LeastLength};
 ghost use Rattle.dn_arc.specs.State.SingleArcs.{length_listed};
-ghost use Rattle.dn_arc.proofs.LengthKindLaws.{length_kind, length_canonical, length_fit};
+ghost use Rattle.dn_arc.specs.Differences.{LengthsDiffer};
+ghost use Rattle.dn_arc.specs.Entries.{length_sizes};
+ghost use Rattle.dn_arc.proofs.LengthKindLaws.{length_kind, length_sized, length_differs, length_canonical, length_fit};
 
 use dn_arc::{Form, How, LengthArc};
 use dn_kind::{Bundle, BundleFault};
@@ -40,9 +42,19 @@ fn length_of(bundle: Option<&Least>) -> Option<i64>
 impl Bundle for Least {
     type Arc = LengthArc;
 
-    ghost bundle = { record { kind = lengths; listed = λ form b. length_listed b.length; wants_memory = false } };
+    ghost bundle = { record {
+      kind = lengths;
+      sizes = length_sizes;
+      Differ = LengthsDiffer;
+      listed = λ form b. length_listed b.length;
+      wants_memory = false;
+    } };
 
     ghost laws = { length_kind };
+
+    ghost sized = { length_sized };
+
+    ghost differs = { length_differs };
 
     ghost canonical = { λ form b. length_canonical b.length };
 

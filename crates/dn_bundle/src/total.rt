@@ -4,7 +4,9 @@ ghost use Rattle.std.specs.Option.{option_copied, option_map, unwrap_or};
 ghost use Rattle.dn_arc.specs.Kinds.{capacities};
 ghost use Rattle.dn_arc.specs.Capacities.{total_cap};
 ghost use Rattle.dn_arc.specs.State.SingleArcs.{cap_listed};
-ghost use Rattle.dn_arc.proofs.TotalKindLaws.{total_kind, total_canonical, total_fit};
+ghost use Rattle.dn_arc.specs.Differences.{TotalsDiffer};
+ghost use Rattle.dn_arc.specs.Entries.{cap_sizes};
+ghost use Rattle.dn_arc.proofs.TotalKindLaws.{total_kind, total_sized, total_differs, total_canonical, total_fit};
 
 use dn_arc::{CapArc, Form, How};
 use dn_kind::{Bundle, BundleFault};
@@ -40,9 +42,19 @@ fn total_of(bundle: Option<&Total>) -> i64
 impl Bundle for Total {
     type Arc = CapArc;
 
-    ghost bundle = { record { kind = capacities; listed = λ form b. cap_listed b.total; wants_memory = false } };
+    ghost bundle = { record {
+      kind = capacities;
+      sizes = cap_sizes;
+      Differ = TotalsDiffer;
+      listed = λ form b. cap_listed b.total;
+      wants_memory = false;
+    } };
 
     ghost laws = { total_kind };
+
+    ghost sized = { total_sized };
+
+    ghost differs = { total_differs };
 
     ghost canonical = { λ form b. total_canonical b.total b.some };
 

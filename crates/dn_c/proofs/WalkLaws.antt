@@ -1,10 +1,11 @@
 -- Lemmas on a walk over canonical arcs.
-use Rattle.std.proofs.Common.{◌≡◌, ◌≤◌, ◌<◌, ◌+◌, ℕ, ℤ, zero, suc, List, [], ◌∷◌, ◌++◌, length, take, drop, slice_get, Option, None, Some, refl, sym, ap, ◌∙◌, arith, drop-drop, length-drop, length-append, take-add}
+use Rattle.std.proofs.Common.{◌≡◌, ◌≤◌, ◌<◌, ◌+◌, ℕ, ℤ, zero, suc, List, [], ◌∷◌, ◌++◌, length, take, drop, slice_get, Option, None, Some, Contains, refl, sym, ap, ◌∙◌, arith, drop-drop, length-drop, length-append, take-add}
 use Rattle.dn_canon.specs.State.ListedArcs.{placed, listed_arcs}
 use Rattle.dn_canon.proofs.LineLaws.{drop_get}
-use Rattle.std.proofs.lemmas.List.{length-map, take-map, drop-map, take_more_set}
+use Rattle.std.proofs.lemmas.List.{length-map, get_or-map, map-append, take-map, drop-map, take_more_set}
+use Rattle.std.proofs.lemmas.List.Elements.{All-nil, All-push, Contains-append_left, Contains-append_right}
 use Rattle.dn_c.specs.State.Places.{last_before, place_after, place_with}
-use Rattle.dn_c.specs.State.Walks.{CopiesFrom, Fills, HasRows, IsNextArc, IsLeft, IsLeftAfter}
+use Rattle.dn_c.specs.State.Walks.{CopiesFrom, CopiesListed, Fills, HasRows, IsNextArc, IsLeft, IsLeftAfter}
 use Rattle.dn_c.specs.State.Rows.{row_of, rows_by}
 use Rattle.dn_c.specs.declared.arcs.Arc.{Arc}
 use Rattle.dn_c.specs.declared.place.Place.{Place}
@@ -50,6 +51,43 @@ module _ {B A : Type 0} (lists : B → List A) (e : (ℤ × ℤ) × B) (table : 
   goes_past None h next = past_from 0 next h
   goes_past (Some y) h next = past_from (h.0 + 1) (next h.0 h.1) h.2
 
+module _ {B A : Type 0} (lists : B → List A) where
+  placed_in : (p : ℤ × ℤ) (xs : List A) (x : A) → Contains xs x → Contains (placed p xs) (p, x)
+  placed_in p xs x (k, low, is) = (
+    k,
+    omega (arith, low, length-map {B = (ℤ × ℤ) × A} xs (λ a. (p, a))),
+    get_or-map {Y = (ℤ × ℤ) × A} (λ a. (p, a)) xs k x (p, x) low ∙ ap (λ a. (p, a)) is,
+  )
+
+  -- an arc that a bundle of the table lists is one of the table
+  pub listed_in : (table : List ((ℤ × ℤ) × B)) (at : ℕ) (e : (ℤ × ℤ) × B) (rest : List ((ℤ × ℤ) × B))
+      → drop at table ≡ e ∷ rest → (x : A) → Contains (lists e.1) x → Contains (listed_arcs lists table) (e.0, x)
+  listed_in [] at e rest is x h = absurd (omega (arith, ap length is, length-drop {A = (ℤ × ℤ) × B} at []))
+  listed_in (f ∷ table) zero e rest is x h =
+      subst (λ t. Contains (listed_arcs lists t) (e.0, x)) (sym is)
+      (Contains-append_left (placed e.0 (lists e.1)) (listed_arcs lists rest) (e.0, x)
+      (placed_in e.0 (lists e.1) x h))
+  listed_in (f ∷ table) (suc at) e rest is x h =
+      Contains-append_right (placed f.0 (lists f.1)) (listed_arcs lists table) (e.0, x)
+      (listed_in table at e rest is x h)
+
+-- one more arc is copied
+module _ {B A : Type 0} (numbers : A → List ℤ) (lists : B → List A) (table : List ((ℤ × ℤ) × B)) where
+  pub none_copied : (Has : List Arc → Type 0) → Has [] → CopiesListed numbers lists table Has 0
+  none_copied Has h = ([], All-nil _, h, refl)
+
+  pub more_copied : (Has More : List Arc → Type 0) (n : ℕ) (found : (ℤ × ℤ) × A) (row : Arc)
+      → row ≡ row_of found.0 (numbers found.1) → Contains (listed_arcs lists table) found
+      → ((done : List Arc) → length done ≡ n → Has done → More (done ++ row ∷ []))
+      → CopiesListed numbers lists table Has n → CopiesListed numbers lists table More (n + 1)
+  more_copied Has More n found row is listed more (arcs, all, has, long) =
+      let rows = map-append (λ a. row_of a.0 (numbers a.1)) arcs (found ∷ []) in (
+        arcs ++ found ∷ [],
+        All-push (Contains (listed_arcs lists table)) arcs found all listed,
+        rw (rows, ← is) (more (rows_by numbers arcs) (length-map arcs _ ∙ sym long) has),
+        omega (arith, long, length-append arcs (found ∷ [])),
+      )
+
 -- one more item is taken of a list
 module _ {X : Type 0} (all : List X) (at : ℕ) where
   pub one_more : (x : X) (rest : List X) → drop at all ≡ x ∷ rest
@@ -85,9 +123,9 @@ module _ {B A : Type 0} (numbers : A → List ℤ) (lists : B → List A) (arc :
 
   pub copies_from : (old new : Place) (room : ℕ) (Has : List Arc → Type 0) (n next : ℕ) (last taken : Option A)
       (result : Count) → last ≡ last_before arc old → new ≡ place_after numbers next taken → result ≡ fine_count n
-      → Fills numbers lists table old.pairs last room Has n next taken
+      → Fills numbers lists table old.pairs last room Has n next taken → CopiesListed numbers lists table Has n
       → CopiesFrom numbers lists arc table old new room Has result
-  copies_from old new room Has n next last taken result was is fine f =
+  copies_from old new room Has n next last taken result was is fine f listed =
       rw (fine, is) (
         refl,
         λ rows h.
@@ -107,6 +145,7 @@ module _ {B A : Type 0} (numbers : A → List ℤ) (lists : B → List A) (arc :
                 ap (drop n) h.2 ∙ drop-map row n left,
               ),
             ),
+        listed,
       )
 
 -- all zeros is the place before all arcs: there all canonical arcs of the instance are left

@@ -2,7 +2,7 @@
 ghost use Rattle.std.specs.Prelude.{◌≡◌, ◌≤◌, List, [], ◌∷◌, ◌++◌, length};
 ghost use Rattle.dn_c.specs.declared.arcs.Arc.{Arc};
 ghost use Rattle.dn_c.specs.State.Columns.{field_of, longest, HasColumn, HasColumns};
-ghost use Rattle.dn_c.specs.State.Walks.{CopiesFrom, Fills};
+ghost use Rattle.dn_c.specs.State.Walks.{CopiesFrom, CopiesListed, Fills};
 
 use crate::arcs::{Arc, row};
 use crate::place::{Kept, Place, last_before, place_after};
@@ -75,6 +75,8 @@ fn put_columns<B: Bundle>(
 ) -> (usize, (usize, Option<B::Arc>))
     ensures fills { Fills B.Arc.numbers (B.bundle.listed form) table.now index last room
         (HasColumns tails.new heads.new a.new b.new c.new) result.0 result.1.0 result.1.1 }
+    ensures listed { CopiesListed B.Arc.numbers (B.bundle.listed form) table.now
+        (HasColumns tails.new heads.new a.new b.new c.new) result.0 }
     ensures fits { result.0 ≤ room }
 {
     let mut spot = index;

@@ -1,6 +1,6 @@
 // Copies canonical arcs, one after the other.
-ghost use Rattle.std.specs.Prelude.{◌≡◌, ◌≤◌, length};
-ghost use Rattle.dn_c.specs.State.Walks.{CopiesFrom, Fills, HasRows};
+ghost use Rattle.std.specs.Prelude.{◌≤◌, length};
+ghost use Rattle.dn_c.specs.State.Walks.{CopiesFrom, CopiesListed, Fills, HasRows};
 
 use crate::arcs::{Arc, row};
 use crate::place::{Kept, Place, last_before, place_after};
@@ -20,6 +20,7 @@ fn put_rows<B: Bundle>(
 ) -> (usize, (usize, Option<B::Arc>))
     ensures fills { Fills B.Arc.numbers (B.bundle.listed form) table.now index last (length out.old) (HasRows out.new)
         result.0 result.1.0 result.1.1 }
+    ensures listed { CopiesListed B.Arc.numbers (B.bundle.listed form) table.now (HasRows out.new) result.0 }
     ensures fits { result.0 ≤ length out.new }
 {
     let room = out.len();

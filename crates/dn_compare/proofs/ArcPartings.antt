@@ -2,7 +2,7 @@
 use Rattle.std.proofs.Common.{ℤ, List, Option, Some, None}
 use Rattle.std.specs.Ordering.{int_cmp}
 use Rattle.std.proofs.lemmas.Map.Lookups.{CmpEqualImpliesEq, exact_pairs, exact_signed}
-use Rattle.dn_arc.specs.State.Bundles.{IsKind}
+use Rattle.dn_arc.specs.State.Bundles.{ArcDiffer, AreDifferences, IsKind}
 use Rattle.dn_arc.specs.Kinds.{ArcKind}
 use Rattle.dn_arc.specs.declared.difference.How.{How}
 use Rattle.dn_arc.specs.Pairs.{bundle, pair_cmp}
@@ -13,11 +13,12 @@ pub exact_pair : CmpEqualImpliesEq pair_cmp
 exact_pair = exact_pairs int_cmp int_cmp exact_signed exact_signed
 
 -- where the listed arcs of two tables first differ, the arcs that they represent do
-pub of_arcs : {B Arc : Type 0} {kind : ArcKind Arc} (laws : IsKind kind) (lists : B → List Arc)
+pub of_arcs : {B Arc : Type 0} {kind : ArcKind Arc} {Differ : ArcDiffer Arc} (laws : IsKind kind)
+    (differs : AreDifferences kind Differ) (lists : B → List Arc)
     (left right : List ((ℤ × ℤ) × B)) (xs ys : List ((ℤ × ℤ) × Arc)) (o : Option ((ℤ × ℤ) × How))
     → TableLists kind lists left xs → TableLists kind lists right ys
-    → IsParting pair_cmp (by_meaning kind lists) left right o → IsArcsParting kind xs ys o
-of_arcs {kind = kind} laws lists left right xs ys o f g h = by_answer o h
+    → IsParting pair_cmp (by_meaning kind Differ lists) left right o → IsArcsParting kind Differ xs ys o
+of_arcs {kind = kind} {Differ = Differ} laws differs lists left right xs ys o f g h = by_answer o h
   where
     same : (q : ℤ × ℤ) → kind.Same (listed_at lists left q) (listed_at lists right q)
         → kind.Same (bundle q xs) (bundle q ys)
@@ -25,10 +26,10 @@ of_arcs {kind = kind} laws lists left right xs ys o f g h = by_answer o h
         laws.meaning.same_trans _ _ _ (laws.meaning.same_sym _ _ (f.stands q).same)
         (laws.meaning.same_trans _ _ _ s (g.stands q).same)
 
-    by_answer : (o : Option ((ℤ × ℤ) × How)) → IsParting pair_cmp (by_meaning kind lists) left right o
-        → IsArcsParting kind xs ys o
+    by_answer : (o : Option ((ℤ × ℤ) × How)) → IsParting pair_cmp (by_meaning kind Differ lists) left right o
+        → IsArcsParting kind Differ xs ys o
     by_answer None h = λ q. same q (h q)
     by_answer (Some x) h = record {
-      differ = laws.same_differ _ _ _ _ x.1 (f.stands x.0).same (g.stands x.0).same h.differ;
+      differ = differs.same_differ _ _ _ _ x.1 (f.stands x.0).same (g.stands x.0).same h.differ;
       same_before = λ q l. same q (h.same_before q l);
     }

@@ -10,7 +10,8 @@ use Rattle.std.proofs.lemmas.Int.{ints}
 use Rattle.std.proofs.lemmas.Map.Lookups.{exact_signed}
 use Rattle.std.proofs.lemmas.Bool.{cases_Bool}
 use Rattle.dn_line.specs.declared.kind.Kind.{Kind}
-use Rattle.dn_arc.specs.State.Bundles.{IsKind}
+use Rattle.dn_arc.specs.Differences.{CurvesDiffer, LengthsDiffer, TotalsDiffer}
+use Rattle.dn_arc.specs.State.Bundles.{ArcDiffer, AreDifferences}
 use Rattle.dn_arc.specs.Kinds.{ArcKind, costs, capacities, lengths}
 use Rattle.dn_arc.specs.declared.arc.LengthArc.{LengthArc}
 use Rattle.dn_arc.specs.declared.arc.CapArc.{CapArc}
@@ -22,9 +23,9 @@ use Rattle.dn_arc.specs.State.Curves.{CurveNumbers}
 use Rattle.dn_bundle.specs.declared.least.Least.{Least}
 use Rattle.dn_bundle.specs.declared.total.Total.{Total}
 use Rattle.dn_arc.specs.declared.difference.How.{How}
-use Rattle.dn_arc.proofs.CostKindLaws.{cost_kind}
-use Rattle.dn_arc.proofs.TotalKindLaws.{total_kind}
-use Rattle.dn_arc.proofs.LengthKindLaws.{length_kind}
+use Rattle.dn_arc.proofs.CostKindLaws.{cost_differs}
+use Rattle.dn_arc.proofs.TotalKindLaws.{total_differs}
+use Rattle.dn_arc.proofs.LengthKindLaws.{length_differs}
 use Rattle.dn_instance.specs.State.Helds.{Contents, Parsed, OfMin, OfMax, OfSp, OfSs, OfP2p, OfCo, IsHeld, contents_kind}
 use Rattle.dn_instance.specs.Instances.{Graph, Instance, MinCostFlow, MaxFlow, ShortestPaths, Sources, Queries, Coordinates, kind_of, nodes_of}
 use Rattle.dn_arc.specs.Pairs.{bundle}
@@ -43,36 +44,37 @@ use Rattle.dn_compare.proofs.VerdictLaws.{same_first}
 
 -- ---- graphs
 
-module _ {Arc : Type 0} {kind : ArcKind Arc} (laws : IsKind kind) (xs ys : List ((ℤ × ℤ) × Arc)) where
+module _ {Arc : Type 0} {kind : ArcKind Arc} {ArcsDiffer : ArcDiffer Arc} (differs : AreDifferences kind ArcsDiffer)
+    (xs ys : List ((ℤ × ℤ) × Arc)) where
   pairs_first : (I J : Instance)
-      → ((p : ℤ × ℤ) (how : How) → kind.Differ (bundle p xs) (bundle p ys) how → BundlesDiffer I J p how)
-      → ((p : ℤ × ℤ) (how : How) → BundlesDiffer I J p how → kind.Differ (bundle p xs) (bundle p ys) how)
+      → ((p : ℤ × ℤ) (how : How) → ArcsDiffer (bundle p xs) (bundle p ys) how → BundlesDiffer I J p how)
+      → ((p : ℤ × ℤ) (how : How) → BundlesDiffer I J p how → ArcsDiffer (bundle p xs) (bundle p ys) how)
       → (((p : ℤ × ℤ) → kind.Same (bundle p xs) (bundle p ys)) → IsSame I J)
       → kind_of I ≡ kind_of J → nodes_of I ≡ nodes_of J → ((id : ℤ) → flow_of I id ≡ flow_of J id)
       → source_of I ≡ source_of J → sink_of I ≡ sink_of J
-      → (v : Verdict) → IsPairVerdict kind xs ys v → IsFirstDifference I J v
+      → (v : Verdict) → IsPairVerdict kind ArcsDiffer xs ys v → IsFirstDifference I J v
   pairs_first I J there back same k n f s t Verdicts.Same h = same_first I J (same h)
   pairs_first I J there back same k n f s t (Verdicts.Pair src dst how) h =
       pair_first I J k n f s t src dst how (there (src, dst) how h.differ)
-      (λ q other lt d. laws.none_differ _ _ other (back q other d) (h.same_before q lt))
+      (λ q other lt d. differs.none_differ _ _ other (back q other d) (h.same_before q lt))
   pairs_first I J there back same k n f s t _ h = absurd h
 
 pub min_pairs : (s t : List (ℤ × ℤ)) (G H : Graph CostArc) (v : Verdict) → s ≡ t → G.nodes ≡ H.nodes
-    → IsPairVerdict costs G.arcs H.arcs v → IsFirstDifference (MinCostFlow s G) (MinCostFlow t H) v
+    → IsPairVerdict costs CurvesDiffer G.arcs H.arcs v → IsFirstDifference (MinCostFlow s G) (MinCostFlow t H) v
 min_pairs s t G H v e n h =
-    pairs_first cost_kind G.arcs H.arcs (MinCostFlow s G) (MinCostFlow t H) (λ p how d. d) (λ p how d. d)
+    pairs_first cost_differs G.arcs H.arcs (MinCostFlow s G) (MinCostFlow t H) (λ p how d. d) (λ p how d. d)
     (λ same. (e, record { nodes = n; bundles = same })) refl n (λ id. rw e) refl refl v h
 
 pub max_pairs : (a b c d : ℤ) (G H : Graph CapArc) (v : Verdict) → a ≡ c → b ≡ d → G.nodes ≡ H.nodes
-    → IsPairVerdict capacities G.arcs H.arcs v → IsFirstDifference (MaxFlow a b G) (MaxFlow c d H) v
+    → IsPairVerdict capacities TotalsDiffer G.arcs H.arcs v → IsFirstDifference (MaxFlow a b G) (MaxFlow c d H) v
 max_pairs a b c d G H v e f n h =
-    pairs_first total_kind G.arcs H.arcs (MaxFlow a b G) (MaxFlow c d H) (λ p how x. x) (λ p how x. x)
+    pairs_first total_differs G.arcs H.arcs (MaxFlow a b G) (MaxFlow c d H) (λ p how x. x) (λ p how x. x)
     (λ same. (e, f, record { nodes = n; bundles = same })) refl n (λ id. refl) (rw e) (rw f) v h
 
-pub sp_pairs : (G H : Graph LengthArc) (v : Verdict) → G.nodes ≡ H.nodes → IsPairVerdict lengths G.arcs H.arcs v
-    → IsFirstDifference (ShortestPaths G) (ShortestPaths H) v
+pub sp_pairs : (G H : Graph LengthArc) (v : Verdict) → G.nodes ≡ H.nodes
+    → IsPairVerdict lengths LengthsDiffer G.arcs H.arcs v → IsFirstDifference (ShortestPaths G) (ShortestPaths H) v
 sp_pairs G H v n h =
-    pairs_first length_kind G.arcs H.arcs (ShortestPaths G) (ShortestPaths H) (λ p how d. d) (λ p how d. d)
+    pairs_first length_differs G.arcs H.arcs (ShortestPaths G) (ShortestPaths H) (λ p how d. d) (λ p how d. d)
     (λ same. record { nodes = n; bundles = same }) refl n (λ id. refl) refl refl v h
 
 -- ---- supplies
@@ -123,7 +125,7 @@ module _ (ls rs : List (ℤ × ℤ)) (lt rt : List ((ℤ × ℤ) × CurveNumbers
       → ((xs ys : List ((ℤ × ℤ) × CostArc))
       → TableLists costs (λ (b : CurveNumbers). listed One b.units b.cost b.steps) lt xs
       → TableLists costs (λ (b : CurveNumbers). listed One b.units b.cost b.steps) rt ys
-      → IsPairVerdict costs xs ys v) → IsVerdictOn (OfMin ls lt) (OfMin rs rt) v
+      → IsPairVerdict costs CurvesDiffer xs ys v) → IsVerdictOn (OfMin ls lt) (OfMin rs rt) v
   min_on v same h (MinCostFlow s G) (MinCostFlow t H) f g n a b =
       let flows : (q : ℤ) → AlikeAt int_cmp by_flow s t q = rw (← a.0, ← b.0) same in
       min_pairs s t G H v (supplies_same G.nodes H.nodes s t f.1.map g.1.map f.1.each g.1.each flows) n
@@ -133,7 +135,7 @@ module _ (ls rs : List (ℤ × ℤ)) (lt rt : List ((ℤ × ℤ) × CurveNumbers
 module _ (a b c d : ℤ) (lt rt : List ((ℤ × ℤ) × Total)) where
   pub max_on : (v : Verdict) → a ≡ c → b ≡ d
       → ((xs ys : List ((ℤ × ℤ) × CapArc)) → TableLists capacities (λ (b : Total). cap_listed b.total) lt xs
-      → TableLists capacities (λ (b : Total). cap_listed b.total) rt ys → IsPairVerdict capacities xs ys v)
+      → TableLists capacities (λ (b : Total). cap_listed b.total) rt ys → IsPairVerdict capacities TotalsDiffer xs ys v)
       → IsVerdictOn (OfMax a b lt) (OfMax c d rt) v
   max_on v e f h (MaxFlow s t G) (MaxFlow u w H) p q n x y =
       max_pairs s t u w G H v (sym x.0 ∙ e ∙ y.0) (sym x.1 ∙ f ∙ y.1) n (h G.arcs H.arcs x.2.lists_them y.2.lists_them)
@@ -152,7 +154,7 @@ module _ (a b c d : ℤ) (lt rt : List ((ℤ × ℤ) × Total)) where
 
 pub sp_on : (lt rt : List ((ℤ × ℤ) × Least)) (v : Verdict)
     → ((xs ys : List ((ℤ × ℤ) × LengthArc)) → TableLists lengths (λ (b : Least). length_listed b.length) lt xs
-    → TableLists lengths (λ (b : Least). length_listed b.length) rt ys → IsPairVerdict lengths xs ys v)
+    → TableLists lengths (λ (b : Least). length_listed b.length) rt ys → IsPairVerdict lengths LengthsDiffer xs ys v)
     → IsVerdictOn (OfSp lt) (OfSp rt) v
 sp_on lt rt v h (ShortestPaths G) (ShortestPaths H) p q n x y =
     sp_pairs G H v n (h G.arcs H.arcs x.lists_them y.lists_them)

@@ -2,9 +2,9 @@
 use Rattle.std.proofs.Common.{◌≡◌, ℕ, ℤ, pos, refl, sym, ap}
 use Rattle.dn_arc.specs.declared.difference.How.{How}
 use Rattle.dn_arc.specs.declared.difference.How.TheVariants.{Lengths, Totals, Costs}
-use Rattle.dn_arc.proofs.CostKindLaws.{cost_kind}
-use Rattle.dn_arc.proofs.TotalKindLaws.{total_kind}
-use Rattle.dn_arc.proofs.LengthKindLaws.{length_kind}
+use Rattle.dn_arc.proofs.CostKindLaws.{cost_differs}
+use Rattle.dn_arc.proofs.TotalKindLaws.{total_differs}
+use Rattle.dn_arc.proofs.LengthKindLaws.{length_differs}
 use Rattle.dn_arc.specs.Pairs.{bundle}
 use Rattle.dn_instance.specs.Instances.{Instance, MinCostFlow, MaxFlow, ShortestPaths, Sources, Queries, Coordinates, kind_of, nodes_of}
 use Rattle.dn_instance.specs.Sameness.{IsSame}
@@ -17,11 +17,11 @@ use Rattle.dn_instance.specs.declared.verdict.Verdict.TheVariants as Verdicts
 
 one_how : (I J : Instance) (p : ℤ × ℤ) (how other : How) → BundlesDiffer I J p how → BundlesDiffer I J p other
     → how ≡ other
-one_how (MinCostFlow s G) (MinCostFlow t H) p how other d e = cost_kind.one_differ _ _ how other d e
+one_how (MinCostFlow s G) (MinCostFlow t H) p how other d e = cost_differs.one_differ _ _ how other d e
 one_how (MaxFlow a b G) (MaxFlow c f H) p how other d e =
-    total_kind.one_differ (bundle p G.arcs) (bundle p H.arcs) how other d e
+    total_differs.one_differ (bundle p G.arcs) (bundle p H.arcs) how other d e
 one_how (ShortestPaths G) (ShortestPaths H) p how other d e =
-    length_kind.one_differ (bundle p G.arcs) (bundle p H.arcs) how other d e
+    length_differs.one_differ (bundle p G.arcs) (bundle p H.arcs) how other d e
 one_how _ _ p how other d e = absurd d
 
 -- at each place at most one verdict is true
@@ -68,11 +68,11 @@ seen _ _ e = absurd e
 bundles_same : (I I' J J' : Instance) (p : ℤ × ℤ) (how : How) → IsSame I I' → IsSame J J' → BundlesDiffer I J p how
     → BundlesDiffer I' J' p how
 bundles_same (MinCostFlow s G) (MinCostFlow u K) (MinCostFlow t H) (MinCostFlow v L) p how e f d =
-    cost_kind.same_differ _ _ _ _ how (e.1.bundles p) (f.1.bundles p) d
+    cost_differs.same_differ _ _ _ _ how (e.1.bundles p) (f.1.bundles p) d
 bundles_same (MaxFlow s t G) (MaxFlow u v K) (MaxFlow a b H) (MaxFlow c g L) p how e f d =
-    total_kind.same_differ _ _ _ _ how (e.2.bundles p) (f.2.bundles p) d
+    total_differs.same_differ _ _ _ _ how (e.2.bundles p) (f.2.bundles p) d
 bundles_same (ShortestPaths G) (ShortestPaths K) (ShortestPaths H) (ShortestPaths L) p how e f d =
-    length_kind.same_differ _ _ _ _ how (e.bundles p) (f.bundles p) d
+    length_differs.same_differ _ _ _ _ how (e.bundles p) (f.bundles p) d
 bundles_same _ _ _ _ p how e f d = absurd (search)
 
 items_same : (I I' J J' : Instance) (i : ℕ) → IsSame I I' → IsSame J J' → ItemsDiffer I J i → ItemsDiffer I' J' i
@@ -124,11 +124,11 @@ true_turned I J _ t = (t.1, t.0, λ e. t.2 (sym e))
 
 -- instances that are the same problem differ at no pair
 pub no_bundles : (I J : Instance) (p : ℤ × ℤ) (how : How) → IsSame I J → BundlesDiffer I J p how → ⊥
-no_bundles (MinCostFlow s G) (MinCostFlow t H) p how e d = cost_kind.none_differ _ _ how d (e.1.bundles p)
+no_bundles (MinCostFlow s G) (MinCostFlow t H) p how e d = cost_differs.none_differ _ _ how d (e.1.bundles p)
 no_bundles (MaxFlow a b G) (MaxFlow c f H) p how e d =
-    total_kind.none_differ (bundle p G.arcs) (bundle p H.arcs) how d (e.2.bundles p)
+    total_differs.none_differ (bundle p G.arcs) (bundle p H.arcs) how d (e.2.bundles p)
 no_bundles (ShortestPaths G) (ShortestPaths H) p how e d =
-    length_kind.none_differ (bundle p G.arcs) (bundle p H.arcs) how d (e.bundles p)
+    length_differs.none_differ (bundle p G.arcs) (bundle p H.arcs) how d (e.bundles p)
 no_bundles _ _ p how e d = absurd d
 
 pub no_items : (I J : Instance) (i : ℕ) → IsSame I J → ItemsDiffer I J i → ⊥

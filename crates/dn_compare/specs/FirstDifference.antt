@@ -3,7 +3,7 @@ use Rattle.std.specs.Prelude.{◌≡◌, ◌≢◌, ℕ, ℤ, pos, Some}
 use Rattle.std.specs.Ordering.{int_cmp, ordering_then}
 use Rattle.std.specs.declared.cmp.Ordering.{Ordering}
 use Rattle.std.specs.declared.cmp.Ordering.TheVariants.{Less}
-use Rattle.dn_arc.specs.Kinds.{costs, capacities, lengths}
+use Rattle.dn_arc.specs.Differences.{CurvesDiffer, LengthsDiffer, TotalsDiffer}
 use Rattle.dn_arc.specs.declared.difference.How.{How}
 use Rattle.dn_instance.specs.Instances.{Instance, MinCostFlow, MaxFlow, ShortestPaths, Sources, Queries, kind_of, nodes_of}
 use Rattle.dn_arc.specs.Pairs.{bundle, pair_cmp}
@@ -18,9 +18,9 @@ Differ x y left right = (x ≡ left) × (y ≡ right) × (left ≢ right)
 
 -- the arcs of an ordered pair differ in meaning, and `how` says how
 abbrev pub BundlesDiffer : Instance → Instance → ℤ × ℤ → How → Type 0
-BundlesDiffer (MinCostFlow s G) (MinCostFlow t H) p how = costs.Differ (bundle p G.arcs) (bundle p H.arcs) how
-BundlesDiffer (MaxFlow a b G) (MaxFlow c d H) p how = capacities.Differ (bundle p G.arcs) (bundle p H.arcs) how
-BundlesDiffer (ShortestPaths G) (ShortestPaths H) p how = lengths.Differ (bundle p G.arcs) (bundle p H.arcs) how
+BundlesDiffer (MinCostFlow s G) (MinCostFlow t H) p how = CurvesDiffer (bundle p G.arcs) (bundle p H.arcs) how
+BundlesDiffer (MaxFlow a b G) (MaxFlow c d H) p how = TotalsDiffer (bundle p G.arcs) (bundle p H.arcs) how
+BundlesDiffer (ShortestPaths G) (ShortestPaths H) p how = LengthsDiffer (bundle p G.arcs) (bundle p H.arcs) how
 BundlesDiffer _ _ p how = ⊥
 
 -- the items at an index differ

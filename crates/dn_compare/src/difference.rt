@@ -111,7 +111,7 @@ fn max_verdict(
 fn pair_verdict<B: Bundle>(left: &Table<B>, right: &Table<B>) -> Verdict
     ensures { (xs ys : List ((ℤ × ℤ) × B.Arc))
         → Lists B.bundle left.now xs → Lists B.bundle right.now ys
-        → IsPairVerdict B.bundle.kind xs ys result }
+        → IsPairVerdict B.bundle.kind B.bundle.Differ xs ys result }
 {
     match first_parting(left.pairs(), right.pairs()) {
         Some(((src, dst), how)) => Verdict::Pair { src, dst, how },

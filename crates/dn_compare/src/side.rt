@@ -65,14 +65,14 @@ impl<'a, B: Bundle> Side for Pairs<'a, B> {
 
     ghost value = { λ b. b.now };
 
-    ghost by = { by_meaning B.bundle.kind (B.bundle.listed One) };
+    ghost by = { by_meaning B.bundle.kind B.bundle.Differ (B.bundle.listed One) };
 
     fn next_entry(&mut self) -> Option<((i64, i64), &'a B)> {
         self.next()
     }
 
     fn how(left: Option<&'a B>, right: Option<&'a B>) -> Option<How>
-        ensures { Compares (by_meaning B.bundle.kind (B.bundle.listed One))
+        ensures { Compares (by_meaning B.bundle.kind B.bundle.Differ (B.bundle.listed One))
             (option_copied left.entry) (option_copied right.entry) result }
     {
         B::how(left, right)
@@ -82,7 +82,7 @@ impl<'a, B: Bundle> Side for Pairs<'a, B> {
 
     ghost none_alike = { B.laws.meaning.same_refl [] };
 
-    ghost none_differ = { λ how d. B.laws.none_differ [] [] how d (B.laws.meaning.same_refl []) };
+    ghost none_differ = { λ how d. B.differs.none_differ [] [] how d (B.laws.meaning.same_refl []) };
 }
 
 // Flows by node. The flow of a node without an entry is 0.

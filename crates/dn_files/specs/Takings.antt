@@ -1,7 +1,5 @@
 -- How files describe themselves, and what asking them for a text does (this project's profile).
-use Rattle.std.specs.Prelude.{◌≡◌, ◌≢◌, ℕ, List, Option, Some, None, false, Result, IfOk, IfSome, OnOk, codes}
-use Rattle.std.specs.Result.{IfErr}
-use Rattle.dn_line.specs.Sources.{SourceFacts}
+use Rattle.std.specs.Prelude.{◌≡◌, ◌≢◌, ℕ, List, Option, IfSome, codes}
 use Rattle.dn_files.specs.declared.files.FilesFault.{FilesFault}
 
 -- the description of files of type F, which hand out texts of type T
@@ -30,17 +28,6 @@ module _ {F T : Type 0} (files : FilesFacts F T) (old new : F) (name : List ℕ)
     pub asks : files.Asks old name new
     pub may : IfSome (files.fault new name) (files.Faults old name)
     pub keeps : KeepsOthers (files.behind old) (files.behind new) name
-
-  -- what taking the text of this name does: the files were asked once for it. On `Ok` they hand out a source for the
-  -- name that gives what is behind it, if this is known, and has not failed, and afterwards they have no fault for the
-  -- name. On a fault, afterwards they have this fault for the name
-  pub record Takes (source : SourceFacts T) (result : Result T FilesFault) : Type 0 where
-    pub text : IfOk result (λ t. IfSome (files.behind old name) (λ b. source.gives t ≡ Some b))
-    pub fine : IfOk result (λ t. source.has_failed t ≡ false)
-    pub hands : IfOk result (files.Hands old name)
-    pub ok : OnOk result (files.fault new name ≡ None)
-    pub err : IfErr result (λ fault. files.fault new name ≡ Some fault)
-    pub asked : AsksOne
 
   -- what taking back this source of the text of `name` does. It changes neither what is behind any name nor the fault
   -- for any name

@@ -1,6 +1,7 @@
 // Files, which hand out texts by name.
 ghost use Rattle.std.specs.Prelude.{◌≡◌};
-ghost use Rattle.dn_files.specs.Takings.{FilesFacts, Takes, TakesBack};
+ghost use Rattle.dn_files.specs.State.Takes.{Takes};
+ghost use Rattle.dn_files.specs.Takings.{FilesFacts, TakesBack};
 
 use dn_instance::Held;
 use dn_line::Source;

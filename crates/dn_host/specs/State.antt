@@ -1,1 +1,4 @@
 pub mod Failures
+pub mod Devices
+pub mod HostTexts
+pub mod StreamReads

@@ -1,9 +1,5 @@
--- How a stream of bytes describes itself, and what a read does (this project's profile).
-use Rattle.std.specs.Prelude.{◌≡◌, ◌≢◌, ◌⊎◌, ℕ, ◌+◌, ◌-◌, ◌^◌, List, Bool, true, false, Option, Result, IfErr}
-use Rattle.std.specs.Io.{ReadsAtMost}
-use Rattle.std.specs.Io.KnownBytes.{ReadConsumes}
-use Rattle.std.specs.IoError.{error_kind}
-use Rattle.std.specs.declared.io.Error.{Error}
+-- How a stream of bytes describes itself, and when a read of it has failed (this project's profile).
+use Rattle.std.specs.Prelude.{◌≡◌, ◌≢◌, ◌⊎◌, ℕ, ◌+◌, ◌-◌, ◌^◌, List, Bool, true, false, Option}
 use Rattle.std.specs.declared.io.ErrorKind.{ErrorKind}
 use Rattle.std.specs.declared.io.ErrorKind.TheVariants.{Interrupted}
 
@@ -13,14 +9,6 @@ pub record StreamFacts (S : Type 0) : Type 1 where
   pub gives : S → Option (List ℕ)
   -- whether a read can fail with an error of this kind and change the first state of the stream to the second
   pub Fails : S → ErrorKind → S → Type 0
-
--- what a read does: it gives the next bytes, and none only at the end or if there is no room; or it fails, where it
--- can, and gives none
-pub record ReadsStream {S : Type 0} (facts : StreamFacts S) (old new : S) (into : List ℕ) (result : Result ℕ Error)
-    : Type 0 where
-  pub bound : ReadsAtMost result into
-  pub bytes : ReadConsumes (facts.gives old) (facts.gives new) result into
-  pub fails : IfErr result (λ e. facts.Fails old (error_kind e) new)
 
 -- n interrupted reads changed the first state of the stream to the second
 pub data Interrupts {S : Type 0} (facts : StreamFacts S) (old : S) : ℕ → S → Type 0 where

@@ -1,5 +1,5 @@
 // Devices that take bytes.
-ghost use Rattle.dn_host.specs.Devices.{DeviceFacts, FlushesOnce, Writes, rewriting};
+ghost use Rattle.dn_host.specs.State.Devices.{DeviceFacts, FlushesOnce, Writes, rewriting};
 
 use std::io;
 use std::io::ErrorKind;

@@ -1,6 +1,6 @@
 // What the host opens, its words, and its standard output. No contract says which bytes these are.
 ghost use Rattle.std.specs.Prelude.{◌≡◌, false, MatchOption, None};
-ghost use Rattle.dn_host.specs.HostTexts.{text_remains};
+ghost use Rattle.dn_host.specs.State.HostTexts.{text_remains};
 
 use crate::device::Device;
 use crate::opener::Opener;

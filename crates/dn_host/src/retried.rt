@@ -1,7 +1,7 @@
 // Retries interrupted writes.
 ghost use Rattle.std.specs.Io.{WritesAtMost};
 ghost use Rattle.std.specs.Io.KnownBytes.{Keeps, WriteAppends};
-ghost use Rattle.dn_host.specs.Devices.{FlushesOnce, Writes, rewriting};
+ghost use Rattle.dn_host.specs.State.Devices.{FlushesOnce, Writes, rewriting};
 
 use crate::device::{Device, write_retrying};
 use std::io;

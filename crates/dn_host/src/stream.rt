@@ -1,5 +1,6 @@
 // Streams of bytes.
-ghost use Rattle.dn_host.specs.Streams.{StreamFacts, ReadsStream};
+ghost use Rattle.dn_host.specs.State.StreamReads.{ReadsStream};
+ghost use Rattle.dn_host.specs.Streams.{StreamFacts};
 ghost use Rattle.dn_host.specs.State.Failures.{retrying};
 
 use std::io;

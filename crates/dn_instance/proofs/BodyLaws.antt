@@ -9,6 +9,7 @@ use Rattle.dn_line.specs.declared.kind.Kind.TheVariants as Kinds
 use Rattle.dn_line.specs.declared.line.Line.{Line}
 use Rattle.dn_line.specs.declared.line.Line.TheVariants as Item
 use Rattle.dn_line.specs.declared.row.Row.{Row}
+use Rattle.dn_arc.specs.Entries.{ArcSizes, cap_sizes, cost_sizes, length_sizes}
 use Rattle.dn_arc.specs.Kinds.{lengths, capacities, costs, ArcKind}
 use Rattle.dn_arc.specs.State.Bundles.{BundleFacts, meant}
 use Rattle.dn_nodes.specs.State.Nodes.{Gains, Nodes, is_known}
@@ -148,13 +149,13 @@ points_took nodes points points' row r before ans ok a was =
 
 module _ {B Arc : Type 0} (text : Kind) (arc_in : Line → Option ((ℤ × ℤ) × Arc)) (b : BundleFacts B Arc) where
   pub table_took : (nodes : ℤ) (t t' : List ((ℤ × ℤ) × B)) (row : Row) (arc : Arc) (r : Result (Unit {0}) ItemFault)
-      (before : List Line) → IsArcOfRow text b.kind arc_in row arc
+      (before : List Line) → IsArcOfRow text b.kind b.sizes arc_in row arc
       → ((is : Bool) → AreArcs b.kind (arcs_of arc_in before) → (IsTrue is ↔ b.kind.IsArc arc)
       → AnswersFault r (arc_fault b.kind nodes (arcs_of arc_in before) is ((row.first, row.second), arc)))
       → (AreArcs b.kind (arcs_of arc_in before)
       → OnOk r (TableLists b.kind (meant b) t' (arcs_of arc_in before ++ ((row.first, row.second), arc) ∷ [])))
       → (AreArcs b.kind (arcs_of arc_in before) → r ≡ Err Memory
-      → GraphNeedsMore b.kind (arcs_of arc_in before) ((row.first, row.second), arc))
+      → GraphNeedsMore b.sizes (arcs_of arc_in before) ((row.first, row.second), arc))
       → Awaits text nodes before (counted_line text row ∷ []) → TableHolds b.kind arc_in (meant b) t before
       → TookRow before (TableHolds b.kind arc_in (meant b) t') (counted_line text row) r
   table_took nodes t t' row arc r before w ans ok out a was =
@@ -183,7 +184,8 @@ module _ {B Arc : Type 0} (text : Kind) (arc_in : Line → Option ((ℤ × ℤ) 
   table_same t t' r same = on_err_weaker r (λ e items h. rw e h) same
 
 -- the arcs that rows spell
-pub length_row : (row : Row) → IsArcOfRow Kinds.Sp lengths length_arc_in row (record { length = row.third })
+pub length_row : (row : Row)
+    → IsArcOfRow Kinds.Sp lengths length_sizes length_arc_in row (record { length = row.third })
 length_row row = record {
   in_line = refl;
   faults = λ nodes before a. record {
@@ -200,7 +202,7 @@ length_row row = record {
   stays = length_stays;
 }
 
-pub cap_row : (row : Row) → IsArcOfRow Kinds.Max capacities cap_arc_in row (record { cap = row.third })
+pub cap_row : (row : Row) → IsArcOfRow Kinds.Max capacities cap_sizes cap_arc_in row (record { cap = row.third })
 cap_row row = record {
   in_line = refl;
   faults = λ nodes before a.
@@ -220,7 +222,8 @@ cap_row row = record {
 }
 
 pub cost_row : (row : Row)
-    → IsArcOfRow Kinds.Min costs cost_arc_in row (record { low = row.third; cap = row.fourth; cost = row.fifth })
+    → IsArcOfRow Kinds.Min costs cost_sizes cost_arc_in row
+    (record { low = row.third; cap = row.fourth; cost = row.fifth })
 cost_row row =
     let arc : CostArc = record { low = row.third; cap = row.fourth; cost = row.fifth } in
     let above = int_lt row.fourth row.third in
@@ -246,12 +249,12 @@ cost_row row =
     }
 
 -- the entries of a table are those of the arcs of the items
-pub table_counted : {B Arc : Type 0} (text : Kind) (kind : ArcKind Arc) (arc_in : Line → Option ((ℤ × ℤ) × Arc))
-    (lists : B → List Arc) (table : List ((ℤ × ℤ) × B)) (n : ℕ)
-    → ((items : List Line) → entries_by (Some text) items ≡ graph_entries kind (arcs_of arc_in items))
+pub table_counted : {B Arc : Type 0} (text : Kind) (kind : ArcKind Arc) (sizes : ArcSizes Arc)
+    (arc_in : Line → Option ((ℤ × ℤ) × Arc)) (lists : B → List Arc) (table : List ((ℤ × ℤ) × B)) (n : ℕ)
+    → ((items : List Line) → entries_by (Some text) items ≡ graph_entries sizes (arcs_of arc_in items))
     → ((arcs : List ((ℤ × ℤ) × Arc)) → TableLists kind lists table arcs → AreArcs kind arcs
-    → graph_entries kind arcs < 2 ^ 64 → n ≡ graph_entries kind arcs) → (items : List Line)
+    → graph_entries sizes arcs < 2 ^ 64 → n ≡ graph_entries sizes arcs) → (items : List Line)
     → TableHolds kind arc_in lists table items → entries_by (Some text) items < 2 ^ 64
     → n ≡ entries_by (Some text) items
-table_counted text kind arc_in lists table n same counts items held few =
+table_counted text kind sizes arc_in lists table n same counts items held few =
     counts _ held.lists_them held.are_arcs (subst (λ k. k < 2 ^ 64) (same items) few) ∙ sym (same items)

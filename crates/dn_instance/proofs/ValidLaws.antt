@@ -25,10 +25,12 @@ use Rattle.dn_instance.specs.Validity.{Fits, IsNode, IsId, IsPlaced, IsValidGrap
 use Rattle.dn_instance.specs.Items.{Problem, problem_in, problem_of, kind_known, arcs_of, length_arc_in, cap_arc_in, cost_arc_in, by_key, supply_in, supplies_of, terminal_in, terminal_of, source_in, query_in, point_in, graph_of, max_flow, instance_as}
 use Rattle.dn_instance.specs.TextFaults.{is_in_range, ids_in, is_companion, is_id, other_letter}
 use Rattle.dn_instance.specs.Texts.{items_of, IsClean, Reads}
+use Rattle.std.specs.Ordering.{int_cmp}
+use Rattle.std.proofs.lemmas.Cmp.{int_cmp_total}
 use Rattle.dn_arc.proofs.PairLaws.{pair_is, bundle_push}
 use Rattle.dn_instance.proofs.SumLaws.{passes, total_passes, cost_passes}
 use Rattle.dn_instance.proofs.CleanItems.{IsNext, by_items, problem_push, or_none, or_assoc}
-use Rattle.dn_instance.proofs.MapLaws.{each_put, map_put, by_key_push, no_keys}
+use Rattle.dn_instance.proofs.MapLaws.{each_put, rising_put, by_key_push, no_keys}
 use Rattle.dn_table.proofs.GrownLaws.{none_is}
 use Rattle.dn_kind.proofs.BundleLaws.{all_end}
 
@@ -163,12 +165,12 @@ none_graph kind nodes none n =
 -- what a problem line alone makes is valid
 first_item : (i : Line) → OnSlots (slots_of i) → None ≡ kind_before i → ForProblem SoundAs (problem_in i) (i ∷ [])
 first_item (Item.Graph Kinds.Min nodes arcs) s e =
-    (none_graph costs nodes refl s.1.1.0, record { map = no_keys; each = tt })
+    (none_graph costs nodes refl s.1.1.0, record { map = no_keys int_cmp; each = tt })
 first_item (Item.Graph Kinds.Max nodes arcs) s e = (none_graph capacities nodes refl s.1.1.0, tt)
 first_item (Item.Graph Kinds.Sp nodes arcs) s e = none_graph lengths nodes refl s.1.1.0
 first_item (Item.Aux Kinds.Ss count) s e = tt
 first_item (Item.Aux Kinds.P2p count) s e = tt
-first_item (Item.Aux Kinds.Co count) s e = record { map = no_keys; each = tt }
+first_item (Item.Aux Kinds.Co count) s e = record { map = no_keys int_cmp; each = tt }
 first_item _ s e = absurd (first_of (assumption, cc))
 
 -- valid flows are valid with the flow of one more node line
@@ -179,7 +181,7 @@ supplies_grown nodes before id flow node fit s = elim (cases_Bool (int_eq flow (
   | inr e ↦
       let some : flow ≡ pos 0 → ⊥ = λ z. cc (rw z at e) in
       rw (grown supply_in before (Item.Supply id flow) (id, flow) (rw e), by_key_push) (record {
-        map = map_put id flow (supplies_of before) s.map;
+        map = rising_put int_cmp id flow int_cmp_total (supplies_of before) s.map;
         each =
             each_put id flow (IsSupply nodes) (supplies_of before)
             (record { node = node; some = some; fits = fit }) s.each;
@@ -272,7 +274,7 @@ next_item p Kinds.P2p before (Item.Query first second) e b fit r n s =
 next_item p Kinds.Co before (Item.Point id x y) e b fit r n s =
     let points = by_key (filter_map point_in before) in
     rw (grown point_in before (Item.Point id x y) (id, (x, y)) refl, by_key_push) (record {
-      map = map_put id (x, y) points s.map;
+      map = rising_put int_cmp id (x, y) int_cmp_total points s.map;
       each =
           each_put id (x, y) IsPoint points
           (record { id = (ids_there p (Item.Point id x y) r).0 fit.1.0; x = fit.1.1.0; y = fit.1.1.1.0 }) s.each;

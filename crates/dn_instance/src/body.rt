@@ -122,7 +122,7 @@ pub(crate) trait RowBundle: Bundle {
 
     // Returns the arc of a row, whose faults are those of the row's item.
     fn arc(row: &Row) -> Self::Arc
-        ensures { IsArcOfRow text Self.bundle.kind arc_in row.now result };
+        ensures { IsArcOfRow text Self.bundle.kind Self.bundle.sizes arc_in row.now result };
 }
 
 impl<B: RowBundle> RowTaker for TableSoFar<B> {

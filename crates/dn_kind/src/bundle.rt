@@ -1,8 +1,8 @@
 // The trait of bundles, which represent what the parallel arcs of one ordered pair mean.
-ghost use Rattle.std.specs.Prelude.{◌≡◌, ◌-◌, ◌^◌, pos, ◌≤ℤ◌, ◌<ℤ◌, ◌↔◌, [], ◌∷◌, ◌++◌, length, IsTrue, IfOk, OnOk, OnErr, slice_get};
+ghost use Rattle.std.specs.Prelude.{◌≡◌, ◌-◌, ◌^◌, pos, ◌≤ℤ◌, ◌<ℤ◌, ◌↔◌, [], ◌∷◌, ◌++◌, length, IsTrue, IfOk, IfSome, OnOk, OnErr, Contains, slice_get};
 ghost use Rattle.std.specs.List.{AllByRecursion};
 ghost use Rattle.std.specs.Option.{option_copied};
-ghost use Rattle.dn_arc.specs.State.Bundles.{BundleFacts, Gains, IsAfter, IsBundleOf, IsHow, IsKind, NumbersFit, PassesSum, Widens, listed_of, meant};
+ghost use Rattle.dn_arc.specs.State.Bundles.{AreDifferences, AreSizes, BundleFacts, Gains, IsAfter, IsBundleOf, IsHow, IsKind, NumbersFit, PassesSum, Widens, listed_of, meant};
 ghost use Rattle.dn_arc.specs.State.CanonArcs.{NeedsMore};
 ghost use Rattle.dn_arc.specs.declared.arc.Form.{Form};
 
@@ -25,8 +25,8 @@ pub enum BundleFault {
 pub trait Bundle: Sized + Drop {
     type Arc: Parts;
 
-    /// Specifies the bundle: the kind of its arcs, the canonical arcs that it lists, and whether adding an arc may run
-    /// out of memory.
+    /// Specifies the bundle: the kind of its arcs, what must be kept of them, how they can differ, the canonical arcs
+    /// that it lists, and whether adding an arc may run out of memory.
     ghost bundle: { BundleFacts Self Self.Arc };
 
     /// Returns the bundle of one arc, or `None` if the arc means the same as no arcs.
@@ -39,7 +39,7 @@ pub trait Bundle: Sized + Drop {
         ensures ok { IfOk result (IsBundleOf bundle arc) }
         ensures fits { bundle.kind.capacity (arc ∷ []) ≤ℤ pos (2 ^ 63 - 1) }
         ensures memory { OnErr result (IsTrue bundle.wants_memory) }
-        ensures widens { OnErr result (NeedsMore bundle.kind [] arc) };
+        ensures widens { OnErr result (NeedsMore bundle.sizes [] arc) };
 
     /// Whether a problem may have this arc.
     fn is_arc(arc: &Self::Arc) -> bool
@@ -70,7 +70,7 @@ pub trait Bundle: Sized + Drop {
 
     /// Returns how many entries the arcs make.
     fn entries(&self) -> u64
-        ensures { result ≡ bundle.kind.entries (meant bundle self.now) };
+        ensures { result ≡ bundle.sizes.entries (meant bundle self.now) };
 
     /// Returns how many canonical arcs the bundle lists in this form.
     fn canon_len(&self, form: Form) -> u64
@@ -81,11 +81,19 @@ pub trait Bundle: Sized + Drop {
         ensures { result ≡ slice_get (bundle.listed form self.now) i };
 
     /// Returns the canonical arc after this one, or `None` after the last, so that a walk can continue from any arc.
+    /// After any other arc, it returns some canonical arc or `None`.
     fn canon_after(&self, arc: &Self::Arc, form: Form) -> Option<Self::Arc>
-        ensures { IsAfter (bundle.listed form self.now) arc.now result };
+        ensures after { IsAfter (bundle.listed form self.now) arc.now result }
+        ensures listed { IfSome result (Contains (bundle.listed form self.now)) };
 
     /// The laws of the kind of arcs.
     ghost laws: { IsKind bundle.kind };
+
+    /// The laws of what must be kept of arcs.
+    ghost sized: { AreSizes bundle.kind bundle.sizes };
+
+    /// The laws of first differences.
+    ghost differs: { AreDifferences bundle.kind bundle.Differ };
 
     /// The listed arcs are canonical.
     ghost canonical: { (form : Form) (b : Self) → bundle.kind.IsCanon form (bundle.listed form b) };

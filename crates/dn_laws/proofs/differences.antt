@@ -1,1 +1,2 @@
 pub mod SomeVerdict
+pub mod ExampleLaws

@@ -2,3 +2,5 @@ pub mod RangeTexts
 pub mod ChunkLaws
 pub mod RangeLaws
 pub mod ExampleLaws
+pub mod KeyLaws
+pub mod ExistLaws

@@ -1,2 +1,5 @@
 pub mod BundleExamples
 pub mod TextExamples
+pub mod DifferenceExamples
+pub mod RunExamples
+pub mod SourceExamples

@@ -1,2 +1,3 @@
 // First differences.
+pub mod examples;
 pub mod laws;

@@ -1,2 +1,3 @@
 // Words of digits, and the numbers that they spell.
+pub mod examples;
 pub mod laws;

@@ -28,7 +28,7 @@ use Rattle.dn_run.specs.Streams.{SinkRun, sink_run}
 use Rattle.dn_run.specs.Texts.{AskedText, IsRefusedCanon, IsRefusedCopy, IsRefusedText, unopened}
 use Rattle.dn_run.specs.State.TextReads.{IsCopy, IsRead}
 use Rattle.dn_files.specs.declared.files.FilesFault.{FilesFault}
-use Rattle.dn_run.proofs.OutcomeLaws.{by_behind, on_held, on_left, on_left_read, on_read}
+use Rattle.dn_run.proofs.OutcomeLaws.{by_behind, on_held, on_left, on_left_read, on_read, on_refused}
 use Rattle.dn_sink.specs.Sinks.{SinkFacts}
 use Rattle.dn_sink.specs.Rows.{line_text}
 use Rattle.dn_compare.proofs.VerdictLaws.{one_first, same_first}
@@ -36,7 +36,7 @@ use Rattle.dn_compare.specs.FirstDifference.{IsFirstDifference}
 use Rattle.dn_report.specs.Verdicts.{verdict_row}
 
 -- `canon` ends as its answer says if the canonical text is not written
-pub canon_unwritten : {T S : Type 0} {text : AskedText T} {out : SinkRun S} {held : Parsed} (form : Form) (e : Refusal)
+pub canon_unwritten : {S : Type 0} {text : AskedText} {out : SinkRun S} {held : Parsed} (form : Form) (e : Refusal)
     → IsRead (IsRefusedText text) text (Ok held) → IsOfWriting e
     → ((I : Instance) → IsValid I → IsHeld held I → WritesCanon out.facts out.old out.new form I (Err e))
     → OnText (PutsCanon form) (λ _. Never) (IsRefusedCanon form text) text out (unwritten text.name e)
@@ -62,10 +62,15 @@ unwritten_answers form name Write h = tt
 unwritten_answers form name _ h = absurd h
 
 -- a reason of reading to refuse a text is a reason of `canon`
-pub canon_refused : {T : Type 0} (text : AskedText T) (form : Form) (b : List ℕ) (e : Refusal) → IsRefusedText text b e
+canon_refused : (text : AskedText) (form : Form) (b : List ℕ) (e : Refusal) → IsRefusedText text b e
     → IsRefusedCanon form text b e
 canon_refused text form b CountTooLarge h = absurd h
 canon_refused text form b _ h = h
+
+pub canon_unread : {S : Type 0} {text : AskedText} {out : SinkRun S} {refusal : Refusal} (form : Form)
+    → IsRead (IsRefusedText text) text (Err refusal)
+    → OnText (PutsCanon form) (λ _. Never) (IsRefusedCanon form text) text out (Refused text.name refusal)
+canon_unread {text = text} {refusal = refusal} form h = on_refused h (λ b r. canon_refused text form b refusal r)
 
 -- what was put for an instance that b reads as is right for b
 finding_on : {S : Type 0} {P : ℕ → List ℕ → Type 0} (Puts : List ℕ → Instance → ℕ → List ℕ → Type 0)
@@ -77,7 +82,7 @@ finding_on Puts Unfits Refuses name out b I reads f (Done status) (t, p, a) = (I
 finding_on Puts Unfits Refuses name out b I reads f Cut (status, t, p, a) = (I, reads, status, t, f status t p, a)
 finding_on Puts Unfits Refuses name out b I reads f _ p = absurd p
 
-module _ {T S : Type 0} {text : AskedText T} {out : SinkRun S} {held : Parsed} {kept copy : List ℕ} (s : copy ≡ kept)
+module _ {S : Type 0} {text : AskedText} {out : SinkRun S} {held : Parsed} {kept copy : List ℕ} (s : copy ≡ kept)
     (h : IsRead (IsRefusedCopy text) text (Ok held)) (c : IsCopy text kept (Ok held))
     (k : HoldsCopied [] kept held) where
   pub checked : {answer : Answer} → IsFound answer
@@ -98,7 +103,7 @@ module _ {T S : Type 0} {text : AskedText T} {out : SinkRun S} {held : Parsed} {
 
 -- after the left text was read, the run went on to the right one
 pub asked_two : {F T : Type 0} {files : FilesRun F T} {mid : F} {left right : List ℕ} {answer : Answer}
-    {Refuses : List ℕ → Refusal → Type 0} {held : Parsed} {Means : AskedText T → AskedText T → Type 0}
+    {Refuses : List ℕ → Refusal → Type 0} {held : Parsed} {Means : AskedText → AskedText → Type 0}
     → ReadsOne files.facts files.source files.old mid left
     → IsRead Refuses (text_asked files files.old mid left) (Ok held)
     → ReadsOne files.facts files.source mid files.new right
@@ -119,7 +124,7 @@ asked_two {files = files} {mid = mid} {left = left} {held = held} first h asks m
     no_fault (Some f) h = cc
 
 -- `check` of two texts puts the lines of both if the companion fits
-module _ {T S : Type 0} {left right : AskedText T} {out : SinkRun S} {graph companion : Parsed}
+module _ {S : Type 0} {left right : AskedText} {out : SinkRun S} {graph companion : Parsed}
     (h : IsRead (IsRefusedCopy left) left (Ok graph)) (k : IsRead (IsRefusedText right) right (Ok companion))
     {kept copy : List ℕ} (s : copy ≡ kept) (c : IsCopy left kept (Ok graph)) (all : HoldsCopied [] kept graph)
     (fit : OfBoth graph companion (λ I J. Ok tt ≡ companion_fit I J)) {with : Kind}
@@ -169,7 +174,7 @@ compared_as I J v status first e = record {
 }
 
 -- if both texts were read, `compare` puts their first difference
-pub compared : {T S : Type 0} {left right : AskedText T} {out : SinkRun S} {one other : Parsed} {answer : Answer}
+pub compared : {S : Type 0} {left right : AskedText} {out : SinkRun S} {one other : Parsed} {answer : Answer}
     → IsRead (IsRefusedText left) left (Ok one) → IsRead (IsRefusedText right) right (Ok other) → IsFound answer
     → ((I J : Instance) → IsValid I → IsValid J → IsHeld one I → IsHeld other J
     → PutsFinding (PutsCompared I J) out answer)

@@ -2,3 +2,4 @@ pub mod ReadLaws
 pub mod OutcomeLaws
 pub mod CommandLaws
 pub mod RunLaws
+pub mod BriefLaws

@@ -14,7 +14,7 @@ use Rattle.dn_files.specs.Takings.{FilesFacts}
 use Rattle.dn_line.specs.Sources.{SourceFacts}
 use Rattle.dn_run.specs.declared.stop.Stop.{Stop}
 use Rattle.dn_run.specs.Answers.{Answer, Done, IsAnswerTo, Refused}
-use Rattle.dn_run.specs.FilesRuns.{files_run}
+use Rattle.dn_run.specs.FilesRuns.{files_run, in_full}
 use Rattle.dn_run.specs.Runs.{Performs}
 use Rattle.dn_run.specs.State.CommandRuns.{Does}
 use Rattle.dn_run.specs.State.Endings.{IsNamed, stopped}
@@ -51,10 +51,10 @@ by_name Is name _ _ e h = absurd e
 pub does_refuse : {F T S : Type 0} {files : FilesFacts F T} {source : SourceFacts T} {out : SinkFacts S} {asked : Asked}
     {both : F × F} {sink : S} {name : List ℕ} {refusal : Refusal} (result : Result ℕ Stop) (stop : Stop)
     → result ≡ Err stop → stopped stop ≡ Refused name refusal
-    → Performs (files_run files source both) (sink_run out (sink, sink)) asked (Refused name refusal)
+    → Performs (in_full (files_run files source both)) (sink_run out (sink, sink)) asked (Refused name refusal)
     → IsAnswerTo asked (Refused name refusal) → Does files source out asked both (sink, sink) result
 does_refuse result stop e is performs answers =
-    rw e (record { performs = rw is performs; out_after = rw is refl; answers = rw is answers; flushed = tt })
+    rw e (record { performs = rw is performs; out_after = rw is refl; answers = rw is answers })
 
 -- if P implies Q of what is known, and P holds of it if there is any, so does Q
 pub by_behind : {X : Type 0} {P Q : X → Type 0} (behind : Option X) → ((x : X) → behind ≡ Some x → P x → Q x)
@@ -62,8 +62,8 @@ pub by_behind : {X : Type 0} {P Q : X → Type 0} (behind : Option X) → ((x : 
 by_behind None f h = tt
 by_behind (Some x) f h = f x refl h
 
-module _ {T S : Type 0} {Puts : List ℕ → Instance → ℕ → List ℕ → Type 0} {Unfits : Instance → CompanionFault → Type 0}
-    {Reading Refuses : List ℕ → Refusal → Type 0} {text : AskedText T} {out : SinkRun S} where
+module _ {S : Type 0} {Puts : List ℕ → Instance → ℕ → List ℕ → Type 0} {Unfits : Instance → CompanionFault → Type 0}
+    {Reading Refuses : List ℕ → Refusal → Type 0} {text : AskedText} {out : SinkRun S} where
   -- if the text was read, `OnText` holds of an answer that is right for the bytes behind its name and for some text
   pub on_held : {held : Parsed} (answer : Answer) → IsRead Reading text (Ok held)
       → (answer ≡ Refused text.name Read → ⊥)
@@ -103,9 +103,9 @@ module _ {T S : Type 0} {Puts : List ℕ → Instance → ℕ → List ℕ → T
     some = tt;
   }
 
-module _ {T S : Type 0} {Puts : List ℕ → Instance → Instance → ℕ → List ℕ → Type 0}
+module _ {S : Type 0} {Puts : List ℕ → Instance → Instance → ℕ → List ℕ → Type 0}
     {Unfits : Instance → Instance → CompanionFault → Type 0} {Refuses : List ℕ → Refusal → Type 0}
-    {left right : AskedText T} {out : SinkRun S} where
+    {left right : AskedText} {out : SinkRun S} where
   -- if the left text was read, `OnTwoTexts` holds of an answer that is right for the bytes behind the names and for
   -- some two texts
   pub on_left : {held : Parsed} (answer : Answer) → IsRead Refuses left (Ok held)

@@ -7,22 +7,28 @@ use Rattle.dn_instance.specs.State.SourceResults.{CopyOutcome, Copied, SourceOut
 use Rattle.dn_instance.specs.declared.refusal.Refusal.{Refusal}
 use Rattle.dn_instance.specs.declared.refusal.Refusal.TheVariants.{Text, Memory, Read, Endless}
 use Rattle.dn_instance.proofs.SourceLaws.{ran_out}
-use Rattle.dn_run.specs.Texts.{AskedText, ComesOf, IsRefusedCopy, IsRefusedText}
+use Rattle.dn_files.specs.declared.files.FilesFault.{FilesFault}
+use Rattle.dn_run.specs.Texts.{AskedText, IsRefusedCopy, IsRefusedText}
+use Rattle.dn_run.specs.TextSources.{ComesOf, TextSources, text_of}
 use Rattle.dn_run.specs.State.TextReads.{IsRead, ReadsAs}
 use Rattle.dn_run.proofs.OutcomeLaws.{by_behind}
 
 -- a source that was handed out, pulled while it was clean and taken back comes of the text
-abbrev pub came : {T : Type 0} {text : AskedText T} {source : T} (first : T) → text.Hands first
-    → PulledWhileClean text.source first source → text.Backs source → ComesOf text source
+abbrev pub came : {T : Type 0} {sources : TextSources T} {source : T} (first : T) → sources.Hands first
+    → PulledWhileClean sources.source first source → sources.Backs source → ComesOf sources source
 came first h p b = record { first = first; handed = h; pulled = p; backs = b }
 
-module _ {T : Type 0} (text : AskedText T) where
-  module _ (source : T) (comes : ComesOf text source) (fine : text.fault ≡ None) where
+module _ {T : Type 0} (name : List ℕ) (behind : Option (List ℕ)) (fault : Option FilesFault)
+    (sources : TextSources T) where
+  abbrev text : AskedText
+  text = text_of name behind fault sources
+
+  module _ (source : T) (comes : ComesOf sources source) (fine : fault ≡ None) where
     abbrev pub left : AfterPulls
-    left = after_pulls text.source comes.first source
+    left = after_pulls sources.source comes.first source
 
     reads_as : (b : List ℕ) (r : Result Parsed Refusal) → SourceOutcome b left r
-        → (IsErrOf r Read → IsTrue (text.source.has_failed source)) → ReadsAs (IsRefusedText text) b r
+        → (IsErrOf r Read → IsTrue (sources.source.has_failed source)) → ReadsAs (IsRefusedText text) b r
     reads_as b (Ok held) h read = h.0
     reads_as b (Err (Text place code)) h read = h.0
     reads_as b (Err Memory) h read = record { source = source; comes = comes; ran_out = ran_out b left h }
@@ -31,20 +37,20 @@ module _ {T : Type 0} (text : AskedText T) where
     reads_as b (Err _) h read = h
 
     -- reading the source that was handed out returns what `IsRead` says
-    pub handed_reads : (given : Option (List ℕ)) (r : Result Parsed Refusal) → IfSome text.behind (λ b. given ≡ Some b)
+    pub handed_reads : (given : Option (List ℕ)) (r : Result Parsed Refusal) → IfSome behind (λ b. given ≡ Some b)
         → IfSome given (λ b. SourceOutcome b left r)
-        → (IsErrOf r Read → IsTrue (text.source.has_failed source)) → IfOk r HoldsSome → IfErr r IsOfReading
+        → (IsErrOf r Read → IsTrue (sources.source.has_failed source)) → IfOk r HoldsSome → IfErr r IsOfReading
         → IsRead (IsRefusedText text) text r
     handed_reads given r e h read held refusal = record {
       not_handed = rw fine tt;
       failed = λ _ is. record { source = source; comes = comes; failed = read is };
-      handed = λ _. by_behind text.behind (λ b known (is : given ≡ Some b). reads_as b r (rw is at h) read) e;
+      handed = λ _. by_behind behind (λ b known (is : given ≡ Some b). reads_as b r (rw is at h) read) e;
       held = held;
       refusal = refusal;
     }
 
     copies_as : (b copy : List ℕ) (r : Result Parsed Refusal) → CopyOutcome b left [] copy r
-        → (IsErrOf r Read → IsTrue (text.source.has_failed source)) → ReadsAs (IsRefusedCopy text) b r
+        → (IsErrOf r Read → IsTrue (sources.source.has_failed source)) → ReadsAs (IsRefusedCopy text) b r
     copies_as b copy (Ok held) h read = h.0.0
     copies_as b copy (Err (Text place code)) h read = h.0.0
     copies_as b copy (Err Memory) (inl h) read =
@@ -69,14 +75,14 @@ module _ {T : Type 0} (text : AskedText T) where
     copies_as b copy (Err _) h read = h.0
 
     pub handed_copies : (given : Option (List ℕ)) (old copy : List ℕ) (r : Result Parsed Refusal) → old ≡ []
-        → IfSome text.behind (λ b. given ≡ Some b) → IfSome given (λ b. CopyOutcome b left old copy r)
-        → (IsErrOf r Read → IsTrue (text.source.has_failed source)) → IfOk r (HoldsCopied old copy)
+        → IfSome behind (λ b. given ≡ Some b) → IfSome given (λ b. CopyOutcome b left old copy r)
+        → (IsErrOf r Read → IsTrue (sources.source.has_failed source)) → IfOk r (HoldsCopied old copy)
         → IfErr r IsOfReading
         → IsRead (IsRefusedCopy text) text r
     handed_copies given old copy r empty e h read held refusal = record {
       not_handed = rw fine tt;
       failed = λ _ is. record { source = source; comes = comes; failed = read is };
-      handed = λ _. by_behind text.behind
+      handed = λ _. by_behind behind
           (λ b known (is : given ≡ Some b). copies_as b copy r (rw (is, empty) at h) read) e;
       held = held_of r held;
       refusal = refusal;

@@ -10,10 +10,12 @@ use Rattle.dn_instance.proofs.FirstFaults.{not_both}
 use Rattle.dn_instance.proofs.ValidLaws.{some_is}
 use Rattle.dn_canon.specs.CanonTexts.{IsTooLarge}
 use Rattle.dn_command.specs.Commands.{Asked, Show, Check, Canon, Compare, asks, names_twice, plain_asked}
-use Rattle.dn_run.specs.Answers.{Answer, Done, Refused, Unfit, Cut, refusal_status, status_of, OutByStatus, Tells}
-use Rattle.dn_run.specs.FilesRuns.{FilesRun, files_run}
+use Rattle.dn_run.specs.Answers.{Answer, Done, Refused, Unfit, Cut, refusal_status, status_of, Tells}
+use Rattle.dn_run.specs.Details.{Detail, in_brief, known_text}
+use Rattle.dn_run.specs.FilesRuns.{FilesRun, files_run, in_full}
 use Rattle.dn_run.specs.Outcomes.{IsRefusedAs, OnText, OnTwoTexts, RanOn}
-use Rattle.dn_run.specs.Runs.{NotAccepted, Performs, Unfits, IsRefusedRun}
+use Rattle.dn_run.specs.Runs.{Performs, Unfits, IsRefusedRun}
+use Rattle.dn_run.specs.State.NotAccepted.{NotAccepted}
 use Rattle.dn_run.specs.Streams.{SinkRun, sink_run}
 use Rattle.dn_run.specs.Texts.{AskedText, IsRefusedCanon, IsRefusedCopy, IsRefusedText, unopened}
 use Rattle.dn_files.specs.declared.files.FilesFault.{FilesFault}
@@ -41,8 +43,8 @@ handed_or_not None name answer two h = refl
 handed_or_not (Some Files.Device) name answer two h = cc (rw h at two)
 handed_or_not (Some Files.Memory) name answer two h = cc (rw h at two)
 
-module _ {T S : Type 0} {Puts : List ℕ → Instance → ℕ → List ℕ → Type 0} {Unfits : Instance → CompanionFault → Type 0}
-    {Refuses : List ℕ → Refusal → Type 0} {text : AskedText T} {out : SinkRun S} (P : List ℕ → Type 0)
+module _ {S : Type 0} {Puts : List ℕ → Instance → ℕ → List ℕ → Type 0} {Unfits : Instance → CompanionFault → Type 0}
+    {Refuses : List ℕ → Refusal → Type 0} {text : AskedText} {out : SinkRun S} (P : List ℕ → Type 0)
     (done : (b : List ℕ) (I : Instance) (status : ℕ) (t : List ℕ) → Puts b I status t → status ≡ 2 → ⊥)
     (refused : (b : List ℕ) (e : Refusal) → Refuses b e → refusal_status e ≡ 2 → P b)
     (unfit : (b : List ℕ) (I : Instance) (fault : CompanionFault) → Reads b I → Unfits I fault → P b) where
@@ -61,26 +63,26 @@ module _ {T S : Type 0} {Puts : List ℕ → Instance → ℕ → List ℕ → T
       by_answer b Cut two r = cc
 
 -- a text that is refused with status 2 when it is read reads as no instance
-unread : {T : Type 0} (text : AskedText T) (b : List ℕ) (e : Refusal) → IsRefusedText text b e → refusal_status e ≡ 2
+unread : (text : AskedText) (b : List ℕ) (e : Refusal) → IsRefusedText text b e → refusal_status e ≡ 2
     → (I : Instance) → Reads b I → ⊥
 unread text b (Text place code) h two I reads = not_both b I place code reads h
 unread text b Write h two I reads = h
 unread text b CountTooLarge h two I reads = h
 unread text b _ h two I reads = cc
 
-uncopied : {T : Type 0} (text : AskedText T) (b : List ℕ) (e : Refusal) → IsRefusedCopy text b e → refusal_status e ≡ 2
+uncopied : (text : AskedText) (b : List ℕ) (e : Refusal) → IsRefusedCopy text b e → refusal_status e ≡ 2
     → (I : Instance) → Reads b I → ⊥
 uncopied text b Memory h two I reads = cc
 uncopied text b e h two I reads = unread text b e h two I reads
 
-too_large : {T : Type 0} (form : Form) (text : AskedText T) (b : List ℕ) (e : Refusal) → IsRefusedCanon form text b e
+too_large : (form : Form) (text : AskedText) (b : List ℕ) (e : Refusal) → IsRefusedCanon form text b e
     → refusal_status e ≡ 2 → (I : Instance) → Reads b I → IsTooLarge form I
 too_large form text b CountTooLarge (J, reads', large) two I reads = rw (one_reading b J I reads' reads) at large
 too_large form text b e h two I reads = absurd (unread text b e h two I reads)
 
-module _ {T S : Type 0} {Puts : List ℕ → Instance → Instance → ℕ → List ℕ → Type 0}
+module _ {S : Type 0} {Puts : List ℕ → Instance → Instance → ℕ → List ℕ → Type 0}
     {Unfits : Instance → Instance → CompanionFault → Type 0} {Refuses : List ℕ → Refusal → Type 0}
-    {left right : AskedText T} {out : SinkRun S} (P : Instance → Instance → Type 0)
+    {left right : AskedText} {out : SinkRun S} (P : Instance → Instance → Type 0)
     (done : (b : List ℕ) (I J : Instance) (status : ℕ) (t : List ℕ) → Puts b I J status t → status ≡ 2 → ⊥)
     (refused : (b : List ℕ) (e : Refusal) → Refuses b e → refusal_status e ≡ 2 → (I : Instance) → Reads b I → ⊥)
     (unfit : (I J : Instance) (fault : CompanionFault) → Unfits I J fault → P I J) where
@@ -108,36 +110,35 @@ module _ {T S : Type 0} {Puts : List ℕ → Instance → Instance → ℕ → L
           rw (one_reading b I K readsI reads, one_reading c J L readsJ readsL) (unfit K L fault u)) answer two on
 
 -- a command that ends with status 2 does not accept its texts
-not_accepted : {F T S : Type 0} (files : FilesRun F T) (out : SinkRun S) (asked : Asked) (answer : Answer)
-    → Performs files out asked answer → status_of answer ≡ 2 → NotAccepted files asked
-not_accepted files out (Show name) answer p two =
-    none_of (λ b. (I : Instance) → Reads b I → ⊥) (λ b I status t q e. omega (arith, q.0, e)) (unread _)
-    (λ b I fault reads u. absurd u) answer two p.means
-not_accepted files out (Check name None) answer p two =
-    none_of (λ b. (I : Instance) → Reads b I → ⊥) (λ b I status t q e. omega (arith, q.0, e)) (uncopied _)
-    (λ b I fault reads u. absurd u) answer two p.means
-not_accepted files out (Check name (Some companion)) answer p two =
+pub not_accepted : {S : Type 0} (behind : List ℕ → Option (List ℕ)) (out : SinkRun S) (asked : Asked) (answer : Answer)
+    → Performs (in_brief behind) out asked answer → status_of answer ≡ 2 → NotAccepted behind asked
+not_accepted behind out (Show name) answer p two =
+    none_of (λ b. (I : Instance) → Reads b I → ⊥) (λ b I status t q e. omega (arith, q.0, e))
+    (unread (known_text name (behind name))) (λ b I fault reads u. absurd u) answer two p
+not_accepted behind out (Check name None) answer p two =
+    none_of (λ b. (I : Instance) → Reads b I → ⊥) (λ b I status t q e. omega (arith, q.0, e))
+    (uncopied (known_text name (behind name))) (λ b I fault reads u. absurd u) answer two p
+not_accepted behind out (Check name (Some companion)) answer p two =
     none_of_two (λ I J. (fault : CompanionFault) × Unfits I J fault) (λ b I J status t q e. omega (arith, q.1.0, e))
-    (uncopied _) (λ I J fault u. (fault, u)) answer two p.means
-not_accepted files out (Canon name form) answer p two =
+    (uncopied (known_text name (behind name))) (λ I J fault u. (fault, u)) answer two p
+not_accepted behind out (Canon name form) answer p two =
     none_of (λ b. (I : Instance) → Reads b I → IsTooLarge form I) (λ b I status t q e. omega (arith, q.0, e))
-    (too_large form _) (λ b I fault reads u. absurd u) answer two p.means
-not_accepted files out (Compare left right) answer p two =
-    none_of_two (λ I J. ⊥) (λ b I J status t q e. omega (arith, q.most, e)) (unread _) (λ I J fault u. absurd u)
-    answer two p.means
+    (too_large form (known_text name (behind name))) (λ b I fault reads u. absurd u) answer two p
+not_accepted behind out (Compare left right) answer p two =
+    none_of_two (λ I J. ⊥) (λ b I J status t q e. omega (arith, q.most, e)) (unread (known_text left (behind left)))
+    (λ I J fault u. absurd u) answer two p
 
 -- a command that names standard input for two texts is refused
-pub refused_twice : {F T S E : Type 0} (files : FilesRun F T) (out : SinkRun S) (err : SinkRun E) (asked : Asked)
-    → names_twice asked ≡ true → IsRefusedRun files out err twice_line 3 → AskedRun files out err asked 3
-refused_twice files out err asked twice refused =
-    record { twice = λ _. refused; once = λ once. cc; refused = λ two. cc }
+pub refused_twice : {S E : Type 0} (detail : Detail) (out : SinkRun S) (err : SinkRun E) (asked : Asked)
+    → names_twice asked ≡ true → IsRefusedRun detail out err twice_line 3 → AskedRun detail out err asked 3
+refused_twice detail out err asked twice refused = record { twice = λ _. refused; once = λ once. cc }
 
 -- any other command is run, with the status and the line that its result makes
 pub run_once : {F T S E : Type 0} (files : FilesFacts F T) (source : SourceFacts T) (out : SinkFacts S)
     (err : SinkRun E) (asked : Asked) (both_files : F × F) (both_outs : S × S) (done : Result ℕ Stop) (number : ℕ)
     → names_twice asked ≡ false → Does files source out asked both_files both_outs done
     → number ≡ status_of (answer_of done) → Tells err (answer_of done)
-    → AskedRun (files_run files source both_files) (sink_run out both_outs) err asked number
+    → AskedRun (in_full (files_run files source both_files)) (sink_run out both_outs) err asked number
 run_once files source out err asked both_files both_outs done number once does status tells =
     record {
       twice = λ twice. cc;
@@ -149,17 +150,14 @@ run_once files source out err asked both_files both_outs done number once does s
         out_after = does.out_after;
         tells = tells;
       };
-      refused = λ two. not_accepted _ _ _ (answer_of done) does.performs (sym status ∙ two);
     }
 
 -- a run that does what the command of its request asks for does what its words ask for
 pub ran : {F T S E : Type 0} (words : List (List ℕ)) (files : FilesRun F T) (out : SinkRun S) (err : SinkRun E)
     (command : Command) (number : ℕ) → ((asked : Asked) → plain_asked words ≡ Some asked → asks command ≡ asked)
     → (plain_asked words ≡ None → IsReadByClap words (requests.Command command))
-    → AskedRun files out err (asks command) number → OutByStatus out number → Ran words files out err number
-ran words files out err command number plain other asked out_by_status =
-    record {
-      asked = λ a is. rw (plain a is) at asked;
-      other = λ none. (requests.Command command, other none, asked);
-      out_by_status = out_by_status;
-    }
+    → AskedRun (in_full files) out err (asks command) number → Ran words (in_full files) out err number
+ran words files out err command number plain other asked = record {
+  asked = λ a is. rw (plain a is) at asked;
+  other = λ none. (requests.Command command, other none, asked);
+}

@@ -40,14 +40,12 @@ Tells err (Refused name refusal) = TakesLine err (fault_line name refusal)
 Tells err (Unfit name fault) = TakesLine err (unfit_line name fault)
 Tells err Cut = TakesLine err (fault_line [] Write)
 
--- whether `out` has failed did not change
-abbrev pub OutDone : {S : Type 0} → SinkRun S → Type 0
-OutDone out = out.facts.has_failed out.new ≡ out.facts.has_failed out.old
-
--- what the command has done to `out`: if the command is done, it has not changed whether `out` has failed; if a text is
--- refused or a companion does not fit, `out` is unchanged; if the answer is `Cut`, `out` has failed
+-- what the command has done to `out`: if the command is done, `out` has passed on all that it took, and whether it has
+-- failed did not change; if a text is refused or a companion does not fit, `out` is unchanged; if the answer is `Cut`,
+-- `out` has failed
 abbrev pub OutAfter : {S : Type 0} → SinkRun S → Answer → Type 0
-OutAfter out (Done status) = OutDone out
+OutAfter out (Done status) =
+    IsTrue (out.facts.is_flushed out.new) × (out.facts.has_failed out.new ≡ out.facts.has_failed out.old)
 OutAfter out (Refused name refusal) = out.new ≡ out.old
 OutAfter out (Unfit name fault) = out.new ≡ out.old
 OutAfter out Cut = IsTrue (out.facts.has_failed out.new)
@@ -83,9 +81,3 @@ IsAnswerTo asked (Done status) = IsDoneWith asked status
 IsAnswerTo asked (Refused name refusal) = IsNameOf asked name × MayRefuse asked refusal
 IsAnswerTo asked (Unfit name fault) = IsCompanionOf asked name
 IsAnswerTo asked Cut = Unit {0}
-
--- what a run has done to `out`, by the exit status: on 0 and 1 `out` has passed on all that it took, and whether it has
--- failed did not change; on 2 and 3 `out` is unchanged
-pub record OutByStatus {S : Type 0} (out : SinkRun S) (status : ℕ) : Type 0 where
-  pub done : (status ≡ 0) ⊎ (status ≡ 1) → IsTrue (out.facts.is_flushed out.new) × OutDone out
-  pub refused : (status ≡ 2) ⊎ (status ≡ 3) → out.new ≡ out.old

@@ -1,9 +1,11 @@
 pub mod Streams
 pub mod Answers
 pub mod Texts
-pub mod FilesRuns
+pub mod Details
 pub mod Outcomes
 pub mod Runs
 pub mod Words
 pub mod HostRuns
+pub mod TextSources
+pub mod FilesRuns
 pub mod State

@@ -9,7 +9,7 @@ use Rattle.dn_instance.specs.declared.refusal.Refusal.TheVariants.{Read}
 use Rattle.dn_sink.specs.Puts.{PutsPrefix}
 use Rattle.dn_run.specs.Answers.{Answer, Done, Refused, Unfit, Cut}
 use Rattle.dn_run.specs.Streams.{SinkRun}
-use Rattle.dn_run.specs.Texts.{AskedText, HasFailed, IsRefusedText, unopened}
+use Rattle.dn_run.specs.Texts.{AskedText, IsRefusedText, unopened}
 
 -- the answer is right for the text b of this name. Done: b reads as an instance, and `out` took a text that the command
 -- puts for this instance, with this status. Refused: the name is this one, and the reason is one to refuse b. Unfit: b
@@ -37,11 +37,11 @@ RanOnSome Puts Unfits Refuses name out answer = (b : List ℕ) × RanOn Puts Unf
 -- handed it out and the answer refuses it with `Read`, its source has failed. If they handed it out and the bytes
 -- behind its name are known, the answer is right for these bytes. In each case the answer is right for some text,
 -- unless it is a refusal
-pub record OnText {T S : Type 0} (Puts : List ℕ → Instance → ℕ → List ℕ → Type 0)
+pub record OnText {S : Type 0} (Puts : List ℕ → Instance → ℕ → List ℕ → Type 0)
     (Unfits : Instance → CompanionFault → Type 0) (Refuses : List ℕ → Refusal → Type 0)
-    (text : AskedText T) (out : SinkRun S) (answer : Answer) : Type 0 where
+    (text : AskedText) (out : SinkRun S) (answer : Answer) : Type 0 where
   pub not_handed : IfSome text.fault (λ fault. answer ≡ Refused text.name (unopened fault))
-  pub failed : text.fault ≡ None → answer ≡ Refused text.name Read → HasFailed text
+  pub failed : text.fault ≡ None → answer ≡ Refused text.name Read → text.HasFailed
   pub handed : text.fault ≡ None → IfSome text.behind (λ b. RanOn Puts Unfits Refuses text.name out b answer)
   pub some : RanOnSome Puts Unfits Refuses text.name out answer
 
@@ -62,9 +62,9 @@ RanOnTwo Puts Unfits Refuses name out answer =
 -- text, the answer refuses it for that. If they handed it out and the bytes behind its name are known, the answer
 -- refuses it, or it reads as an instance and `OnText` holds of the right text. In each case the answer is right for
 -- some two texts, unless it is a refusal
-pub record OnTwoTexts {T S : Type 0} (Puts : List ℕ → Instance → Instance → ℕ → List ℕ → Type 0)
+pub record OnTwoTexts {S : Type 0} (Puts : List ℕ → Instance → Instance → ℕ → List ℕ → Type 0)
     (Unfits : Instance → Instance → CompanionFault → Type 0) (Refuses : List ℕ → Refusal → Type 0)
-    (left right : AskedText T) (out : SinkRun S) (answer : Answer) : Type 0 where
+    (left right : AskedText) (out : SinkRun S) (answer : Answer) : Type 0 where
   pub not_handed : IfSome left.fault (λ fault. answer ≡ Refused left.name (unopened fault))
   pub handed : left.fault ≡ None → IfSome left.behind (λ b. IsRefusedAs Refuses left.name b answer
       ⊎ ((I : Instance) × Reads b I × OnText (λ c J. Puts b I J) (Unfits I) (IsRefusedText right) right out answer))

@@ -1,14 +1,13 @@
 -- What a run does for a command (this project's profile).
-use Rattle.std.specs.Prelude.{◌≡◌, ◌↔◌, ℕ, ◌≤◌, List, true, Option, None, Some, IfSome, Ok, Err}
+use Rattle.std.specs.Prelude.{◌≡◌, ◌↔◌, ℕ, ◌≤◌, List, true, Option, None, Some, Ok, Err}
 use Rattle.dn_line.specs.declared.kind.Kind.{Kind}
 use Rattle.dn_arc.specs.declared.arc.Form.{Form}
 use Rattle.dn_arc.specs.declared.arc.Form.TheVariants.{One, Two}
 use Rattle.dn_instance.specs.Companions.{companion_fit}
 use Rattle.dn_instance.specs.Instances.{Instance, kind_of}
 use Rattle.dn_instance.specs.Sameness.{IsSame}
-use Rattle.dn_instance.specs.Texts.{Reads}
 use Rattle.dn_instance.specs.declared.companion.CompanionFault.{CompanionFault}
-use Rattle.dn_canon.specs.CanonTexts.{IsCanonOf, IsTooLarge}
+use Rattle.dn_canon.specs.CanonTexts.{IsCanonOf}
 use Rattle.dn_compare.specs.FirstDifference.{IsFirstDifference}
 use Rattle.dn_instance.specs.declared.verdict.Verdict.{Verdict}
 use Rattle.dn_sink.specs.Rows.{line_text, text_of}
@@ -18,7 +17,7 @@ use Rattle.dn_report.specs.Verdicts.{verdict_row}
 use Rattle.dn_report.specs.declared.check.Forms.{Forms}
 use Rattle.dn_command.specs.Commands.{Asked, Show, Check, Canon, Compare}
 use Rattle.dn_run.specs.Answers.{Answer, IsAnswerTo, OutAfter, Tells, status_of}
-use Rattle.dn_run.specs.FilesRuns.{FilesRun, OneAsked, TwoAsked}
+use Rattle.dn_run.specs.Details.{Detail}
 use Rattle.dn_run.specs.Outcomes.{OnText, OnTwoTexts}
 use Rattle.dn_run.specs.Streams.{SinkRun, TakesLine}
 use Rattle.dn_run.specs.Texts.{IsRefusedText, IsRefusedCanon, IsRefusedCopy}
@@ -64,51 +63,37 @@ pub record PutsCompared (I J : Instance) (status : ℕ) (t : List ℕ) : Type 0 
   pub most : status ≤ 1
   pub same : (status ≡ 0) ↔ IsSame I J
 
--- what a command does: which texts it asks for, and what it does with them
-abbrev pub Performs : {F T S : Type 0} → FilesRun F T → SinkRun S → Asked → Answer → Type 0
-Performs files out (Show name) answer =
-    OneAsked files name (λ text. OnText PutsShown (λ _. Never) (IsRefusedText text) text out answer)
-Performs files out (Check name None) answer =
-    OneAsked files name (λ text. OnText (PutsChecked None) (λ _. Never) (IsRefusedCopy text) text out answer)
-Performs files out (Check name (Some companion)) answer =
-    TwoAsked files name companion answer
+-- what a command does with the texts that it asks for
+abbrev pub Performs : {S : Type 0} → Detail → SinkRun S → Asked → Answer → Type 0
+Performs detail out (Show name) answer =
+    detail.OneAsked name (λ text. OnText PutsShown (λ _. Never) (IsRefusedText text) text out answer)
+Performs detail out (Check name None) answer =
+    detail.OneAsked name (λ text. OnText (PutsChecked None) (λ _. Never) (IsRefusedCopy text) text out answer)
+Performs detail out (Check name (Some companion)) answer =
+    detail.TwoAsked name companion answer
     (λ left right. OnTwoTexts PutsFit Unfits (IsRefusedCopy left) left right out answer)
-Performs files out (Canon name form) answer =
-    OneAsked files name (λ text. OnText (PutsCanon form) (λ _. Never) (IsRefusedCanon form text) text out answer)
-Performs files out (Compare left right) answer =
-    TwoAsked files left right answer
+Performs detail out (Canon name form) answer =
+    detail.OneAsked name (λ text. OnText (PutsCanon form) (λ _. Never) (IsRefusedCanon form text) text out answer)
+Performs detail out (Compare left right) answer =
+    detail.TwoAsked left right answer
     (λ l r. OnTwoTexts (λ _. PutsCompared) (λ _ _. Never) (IsRefusedText l) l r out answer)
 
 -- what the run of a command does: one answer gives the exit status, what the command has done with its texts, and what
 -- it has done to `out` and `err`; and it is an answer that the command may have
-pub record CommandRun {F T S E : Type 0} (files : FilesRun F T) (out : SinkRun S) (err : SinkRun E) (asked : Asked)
-    (number : ℕ) : Type 0 where
+pub record CommandRun {S E : Type 0} (detail : Detail) (out : SinkRun S) (err : SinkRun E) (asked : Asked) (number : ℕ)
+    : Type 0 where
   pub answer : Answer
   pub status_is : number ≡ status_of answer
   pub answers : IsAnswerTo asked answer
-  pub performs : Performs files out asked answer
+  pub performs : Performs detail out asked answer
   pub out_after : OutAfter out answer
   pub tells : Tells err answer
 
--- the command does not accept its text, or its two texts together, if the bytes behind all names are known: one reads
--- as no instance, the canonical text that is asked for is too large, or the companion does not fit
-abbrev pub NotAccepted : {F T : Type 0} → FilesRun F T → Asked → Type 0
-NotAccepted files (Show name) = IfSome (files.facts.behind files.old name) (λ b. (I : Instance) → Reads b I → ⊥)
-NotAccepted files (Check name None) = IfSome (files.facts.behind files.old name) (λ b. (I : Instance) → Reads b I → ⊥)
-NotAccepted files (Check name (Some companion)) =
-    IfSome (files.facts.behind files.old name) (λ b. IfSome (files.facts.behind files.old companion)
-    (λ c. (I J : Instance) → Reads b I → Reads c J → (fault : CompanionFault) × Unfits I J fault))
-NotAccepted files (Canon name form) =
-    IfSome (files.facts.behind files.old name) (λ b. (I : Instance) → Reads b I → IsTooLarge form I)
-NotAccepted files (Compare left right) =
-    IfSome (files.facts.behind files.old left) (λ b. IfSome (files.facts.behind files.old right)
-    (λ c. (I J : Instance) → Reads b I → Reads c J → ⊥))
-
--- a run that is refused because of its words: the exit status is 3, the run puts this line on `err`, and the files and
--- `out` are unchanged
-pub record IsRefusedRun {F T S E : Type 0} (files : FilesRun F T) (out : SinkRun S) (err : SinkRun E) (line : List ℕ)
+-- a run that is refused because of its words: the exit status is 3, the run puts this line on `err` and asks for no
+-- text, and `out` is unchanged
+pub record IsRefusedRun {S E : Type 0} (detail : Detail) (out : SinkRun S) (err : SinkRun E) (line : List ℕ)
     (number : ℕ) : Type 0 where
   pub status_is : number ≡ 3
-  pub files_stay : files.new ≡ files.old
+  pub none_asked : detail.NoneAsked
   pub out_stays : out.new ≡ out.old
   pub tells : TakesLine err line

@@ -2,3 +2,5 @@ pub mod Endings
 pub mod TextReads
 pub mod CommandRuns
 pub mod Findings
+pub mod NotAccepted
+pub mod OutByStatus

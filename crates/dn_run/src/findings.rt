@@ -1,5 +1,5 @@
 // Puts what `check` and `compare` find in texts that were read.
-ghost use Rattle.std.specs.Prelude.{◌≡◌, ℕ, List, Option, IsTrue, OnOk};
+ghost use Rattle.std.specs.Prelude.{◌≡◌, ℕ, List, Option};
 ghost use Rattle.dn_instance.specs.State.Helds.{OfBoth};
 ghost use Rattle.dn_instance.specs.State.ReaderResults.{OfText};
 ghost use Rattle.dn_command.specs.Commands.{Check};
@@ -31,7 +31,6 @@ pub(crate) fn put_check<'a, O: Sink>(
     ensures out_after { OutAfter (sink_run O.sink (out.old, out.new)) (answer_of result) }
     ensures answers { (name : List ℕ) (with : Option (List ℕ)) → IsAnswerTo (Check name with) (answer_of result) }
     ensures found { IsFound (answer_of result) }
-    ensures flushed { OnOk result (IsTrue (O.sink.is_flushed out.new)) }
 {
     let forms = forms_of(held, text);
     match put_checked(out, held.kind(), companion, forms) {
@@ -51,7 +50,6 @@ pub(crate) fn put_compared<'a, O: Sink>(
         (λ I J. PutsFinding (PutsCompared I J) (sink_run O.sink (out.old, out.new)) (answer_of result)) }
     ensures out_after { OutAfter (sink_run O.sink (out.old, out.new)) (answer_of result) }
     ensures found { IsFound (answer_of result) }
-    ensures flushed { OnOk result (IsTrue (O.sink.is_flushed out.new)) }
 {
     let verdict = compare(left, right);
     match put_verdict(out, &verdict) {

@@ -1,7 +1,11 @@
 // A run of the program over the texts of an opener.
 ghost use Rattle.std.specs.Prelude.{◌≡◌, ◌≤◌, MatchResult, map, string_bytes};
 ghost use Rattle.dn_run.specs.Streams.{sink_run};
-ghost use Rattle.dn_run.specs.HostRuns.{HostFilesFacts, NoWords, RanOnHost};
+ghost use Rattle.dn_host.specs.Openers.{behind_of};
+ghost use Rattle.dn_run.specs.Details.{in_brief};
+ghost use Rattle.dn_run.specs.FilesRuns.{files_run, in_full};
+ghost use Rattle.dn_run.specs.HostRuns.{NoWords};
+ghost use Rattle.dn_run.specs.Words.{Ran};
 
 use crate::runs::{refuse_words, run};
 use dn_files::Files;
@@ -29,13 +33,14 @@ pub fn run_on<'a, P: Opener, O: Sink, E: Sink>(
     ensures ran { let o = sink_run O.sink (out.old, out.new) in
         let e = sink_run E.sink (err.old, err.new) in
         MatchResult words.now
-        (λ ws. RanOnHost (record {
-          files = ⟦<OpenedFiles<'a, P> as Files>⟧.files;
-          source = ⟦<OpenedSource<P> as Source>⟧.source;
-          Begins = λ f. f ≡ files.old;
-          Ends = λ f. f ≡ files.new;
-        }) o e (map string_bytes ws.items) result)
-        (λ error. NoWords o e error result × (files.new ≡ files.old)) }
+        (λ ws. Ran (map string_bytes ws.items) (in_brief (behind_of P.opener files.old.opener.now)) o e result)
+        (λ error. NoWords o e error result) }
+    ensures also { let o = sink_run O.sink (out.old, out.new) in
+        let e = sink_run E.sink (err.old, err.new) in
+        MatchResult words.now
+        (λ ws. Ran (map string_bytes ws.items) (in_full (files_run ⟦<OpenedFiles<'a, P> as Files>⟧.files
+        ⟦<OpenedSource<P> as Source>⟧.source (files.old, files.new))) o e result)
+        (λ error. files.new ≡ files.old) }
 {
     match words {
         Ok(words) => run(alloc, words, files, out, err),

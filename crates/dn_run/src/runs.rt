@@ -1,7 +1,7 @@
 // A run of the program, over any files and any streams.
 ghost use Rattle.std.specs.Prelude.{◌≡◌, ◌≤◌, map, string_bytes};
-ghost use Rattle.dn_run.specs.Answers.{OutByStatus};
-ghost use Rattle.dn_run.specs.FilesRuns.{files_run};
+ghost use Rattle.dn_run.specs.Details.{in_brief};
+ghost use Rattle.dn_run.specs.FilesRuns.{files_run, in_full};
 ghost use Rattle.dn_run.specs.Streams.{TakesLine, sink_run};
 ghost use Rattle.dn_run.specs.Words.{PrintsText, Ran, bad_command_line};
 
@@ -27,7 +27,9 @@ pub fn run<F: Files, O: Sink, E: Sink>(
     err: &mut E,
 ) -> u8
     ensures status { result ≤ 4 }
-    ensures ran { Ran (map string_bytes words.now) (files_run F.files F.Text.source (files.old, files.new))
+    ensures ran { Ran (map string_bytes words.now) (in_brief (F.files.behind files.old))
+        (sink_run O.sink (out.old, out.new)) (sink_run E.sink (err.old, err.new)) result }
+    ensures also { Ran (map string_bytes words.now) (in_full (files_run F.files F.Text.source (files.old, files.new)))
         (sink_run O.sink (out.old, out.new)) (sink_run E.sink (err.old, err.new)) result }
 {
     match request_of(alloc, words) {
@@ -63,9 +65,8 @@ pub(crate) fn refuse_words<E: Sink>(err: &mut E) -> u8
 
 // Puts a text on `out`, and returns the exit status.
 fn print<O: Sink, E: Sink>(text: &str, out: &mut O, err: &mut E) -> u8
-    ensures prints { PrintsText text.now (sink_run O.sink (out.old, out.new))
+    ensures { PrintsText text.now (sink_run O.sink (out.old, out.new))
         (sink_run E.sink (err.old, err.new)) result }
-    ensures out { OutByStatus (sink_run O.sink (out.old, out.new)) result }
 {
     match put_and_flush(out, text.as_bytes()) {
         Ok(()) => 0,

@@ -6,10 +6,10 @@ use Rattle.std.proofs.Math.Bool.{or-true}
 use Rattle.std.proofs.lemmas.Map.Keys.{IsDistinct-head, IsDistinct-tail}
 use Rattle.std.specs.List.{AllByRecursion, list_any, IsDistinct}
 use Rattle.std.specs.Map.{keys_of, lookup}
-use Rattle.dn_arc.specs.State.Bundles.{IsKind, listed_of}
+use Rattle.dn_arc.specs.State.Bundles.{AreSizes, IsKind, listed_of}
 use Rattle.dn_arc.specs.Canonical.{has_low}
 use Rattle.dn_arc.specs.Capacities.{total_cap}
-use Rattle.dn_arc.specs.Entries.{distinct, has_room, length_entries, cap_entries, cost_entries}
+use Rattle.dn_arc.specs.Entries.{ArcSizes, distinct, has_room, length_entries, cap_entries, cost_entries}
 use Rattle.dn_arc.specs.declared.arc.LengthArc.{LengthArc}
 use Rattle.dn_arc.specs.declared.arc.CapArc.{CapArc}
 use Rattle.dn_arc.specs.declared.arc.CostArc.{CostArc}
@@ -168,39 +168,41 @@ module _ {B : Type 0} where
         | inr q ↦ rw q at (at k (rw (q, m)))
       ]
 
-module _ {B Arc : Type 0} (kind : ArcKind Arc) (laws : IsKind kind) (lists : B → List Arc) where
+module _ {B Arc : Type 0} (kind : ArcKind Arc) (sizes : ArcSizes Arc) (laws : IsKind kind)
+    (sized : AreSizes kind sizes) (lists : B → List Arc) where
   -- the bundles of a table make as many entries as the arcs that the table represents
   pub table_entries : (table : List (Pair × B)) (arcs : List (Pair × Arc)) → Once (keys_of table)
       → TableLists kind lists table arcs → AreArcs kind arcs
-      → sum_by (λ (e : Pair × B). kind.entries (lists e.1)) table ≡ graph_entries kind arcs
+      → sum_by (λ (e : Pair × B). sizes.entries (lists e.1)) table ≡ graph_entries sizes arcs
   table_entries table arcs once t are =
-      sum_at f (λ b. kind.entries (lists b)) table table (λ k m. refl) once at
+      sum_at f (λ b. sizes.entries (lists b)) table table (λ k m. refl) once at
       ∙ same_sum f (keys_of table) (distinct same_pair (map (λ a. a.0) arcs)) once
       (once_distinct (map (λ a. a.0) arcs)) out back
     where
       f : Pair → ℕ
-      f p = kind.entries (bundle p arcs)
+      f p = sizes.entries (bundle p arcs)
 
       arcs_at : (p : Pair) → AllByRecursion kind.IsArc (bundle p arcs)
       arcs_at p = bundle_arcs kind.IsArc p arcs are
 
       at : (k : Pair) (b : B) → lookup (same_pair k) table ≡ Some b
-          → kind.entries (lists b) ≡ kind.entries (bundle k arcs)
+          → sizes.entries (lists b) ≡ sizes.entries (bundle k arcs)
       at k b e =
           let stands = t.stands k in
-          ap (λ o. kind.entries (listed_of lists o)) (sym e)
-          ∙ laws.same_entries (listed_at lists table k) (bundle k arcs)
+          ap (λ o. sizes.entries (listed_of lists o)) (sym e)
+          ∙ sized.same_entries (listed_at lists table k) (bundle k arcs)
           (laws.canon_arcs One (listed_at lists table k) stands.canonical) (arcs_at k) stands.same
 
       out : (r : Pair) → among r (keys_of table) ≡ false → among r (distinct same_pair (map (λ a. a.0) arcs)) ≡ true
           → f r ≡ 0
       out r e g =
-          laws.same_entries (bundle r arcs) [] (arcs_at r) tt ((t.absent r).0 (no_entry r table e)) ∙ laws.none_entries
+          sized.same_entries (bundle r arcs) [] (arcs_at r) tt ((t.absent r).0 (no_entry r table e))
+          ∙ sized.none_entries
 
       back : (r : Pair) → among r (keys_of table) ≡ true → among r (distinct same_pair (map (λ a. a.0) arcs)) ≡ false
           → f r ≡ 0
       back r e g =
-          ap kind.entries (no_bundle r arcs (sym (among_distinct r (map (λ a. a.0) arcs)) ∙ g)) ∙ laws.none_entries
+          ap sizes.entries (no_bundle r arcs (sym (among_distinct r (map (λ a. a.0) arcs)) ∙ g)) ∙ sized.none_entries
 
 among_push : (r q : Pair) (ps : List Pair) → among r (ps ++ q ∷ []) ≡ (among r ps || same_pair r q)
 among_push r q [] = elim (cases_Bool (same_pair r q)) [ inl t ↦ rw t | inr t ↦ rw t ]
@@ -219,7 +221,8 @@ module _ (f g : Pair → ℕ) (each : (p : Pair) → f p ≤ g p) where
     | inr e ↦ omega (arith, sum_by-cons f p ps, sum_by-cons g p ps, each p, sum_more q ps (rw e at m) h)
   ]
 
-module _ {Arc : Type 0} (kind : ArcKind Arc) (laws : IsKind kind) (arcs : List (Pair × Arc)) (a : Pair × Arc) where
+module _ {Arc : Type 0} (sizes : ArcSizes Arc) (none_entries : sizes.entries [] ≡ 0) (arcs : List (Pair × Arc))
+    (a : Pair × Arc) where
   abbrev more : List (Pair × Arc)
   more = arcs ++ a ∷ []
 
@@ -239,8 +242,8 @@ module _ {Arc : Type 0} (kind : ArcKind Arc) (laws : IsKind kind) (arcs : List (
   among_these = among_distinct a.0 (keys more) ∙ among_more a.0 ∙ rw (pair_self a.0) (or-true (among a.0 (keys arcs)))
 
   -- with one more arc that makes more entries of its pair, a graph makes more entries
-  pub graph_grows : kind.entries (bundle a.0 arcs) < kind.entries (bundle a.0 arcs ++ a.1 ∷ [])
-      → graph_entries kind arcs < graph_entries kind more
+  pub graph_grows : sizes.entries (bundle a.0 arcs) < sizes.entries (bundle a.0 arcs ++ a.1 ∷ [])
+      → graph_entries sizes arcs < graph_entries sizes more
   graph_grows h =
       let same =
       same_sum f (distinct same_pair (keys more)) (distinct same_pair (keys arcs)) (once_distinct (keys more))
@@ -249,18 +252,18 @@ module _ {Arc : Type 0} (kind : ArcKind Arc) (laws : IsKind kind) (arcs : List (
       omega (arith, same, grows)
     where
       f : Pair → ℕ
-      f p = kind.entries (bundle p arcs)
+      f p = sizes.entries (bundle p arcs)
 
       g : Pair → ℕ
-      g p = kind.entries (bundle p more)
+      g p = sizes.entries (bundle p more)
 
-      each_here : kind.entries (bundle a.0 arcs) < kind.entries (bundle a.0 arcs ++ a.1 ∷ []) → f a.0 < g a.0
-      each_here h = subst (λ l. kind.entries (bundle a.0 arcs) < kind.entries l) (sym here) h
+      each_here : sizes.entries (bundle a.0 arcs) < sizes.entries (bundle a.0 arcs ++ a.1 ∷ []) → f a.0 < g a.0
+      each_here h = subst (λ l. sizes.entries (bundle a.0 arcs) < sizes.entries l) (sym here) h
 
       each : (p : Pair) → f p ≤ g p
       each p = elim (cases_Bool (same_pair p a.0)) [
         | inl e ↦ subst (λ q. f q ≤ g q) (sym (pair_is p a.0 e)) (omega (arith, each_here h))
-        | inr e ↦ omega (arith, ap kind.entries (there p e))
+        | inr e ↦ omega (arith, ap sizes.entries (there p e))
       ]
 
       out : (r : Pair) → among r (distinct same_pair (keys more)) ≡ false
@@ -272,7 +275,7 @@ module _ {Arc : Type 0} (kind : ArcKind Arc) (laws : IsKind kind) (arcs : List (
 
       back : (r : Pair) → among r (distinct same_pair (keys more)) ≡ true
           → among r (distinct same_pair (keys arcs)) ≡ false → f r ≡ 0
-      back r e m = ap kind.entries (no_bundle r arcs (sym (among_distinct r (keys arcs)) ∙ m)) ∙ laws.none_entries
+      back r e m = ap sizes.entries (no_bundle r arcs (sym (among_distinct r (keys arcs)) ∙ m)) ∙ none_entries
 
 -- 1 if both are the same pair, and 0 otherwise
 abbrev one_if : Pair → Pair → ℕ
@@ -325,18 +328,18 @@ module _ {Arc : Type 0} where
   bundles_few (a ∷ rest) ps o = let split = split_sum a rest ps in let one = one_at a.0 ps o in
       omega (arith, bundles_few rest ps o)
 
-  module _ (kind : ArcKind Arc) (bound : (xs : List Arc) → kind.entries xs ≤ 2 * length xs) where
+  module _ (sizes : ArcSizes Arc) (bound : (xs : List Arc) → sizes.entries xs ≤ 2 * length xs) where
     each_few : (arcs : List (Pair × Arc)) (ps : List Pair)
-        → sum_by (λ p. kind.entries (bundle p arcs)) ps ≤ 2 * sum_by (λ p. length (bundle p arcs)) ps
+        → sum_by (λ p. sizes.entries (bundle p arcs)) ps ≤ 2 * sum_by (λ p. length (bundle p arcs)) ps
     each_few arcs [] = omega arith
     each_few arcs (p ∷ ps) =
-        let one = sum_by-cons (λ x. kind.entries (bundle x arcs)) p ps in
+        let one = sum_by-cons (λ x. sizes.entries (bundle x arcs)) p ps in
         let two = sum_by-cons (λ x. length (bundle x arcs)) p ps in
         let head = bound (bundle p arcs) in
         omega (arith, each_few arcs ps)
 
     -- the entries are at most two for each arc
-    pub graph_few : (arcs : List (Pair × Arc)) → graph_entries kind arcs ≤ 2 * length arcs
+    pub graph_few : (arcs : List (Pair × Arc)) → graph_entries sizes arcs ≤ 2 * length arcs
     graph_few arcs =
         let ps = distinct same_pair (map (λ (a : Pair × Arc). a.0) arcs) in
         let each = each_few arcs ps in

@@ -2,6 +2,7 @@
 use Rattle.std.specs.Prelude.{◌≡◌, ℕ, ◌+◌, ◌-◌, ◌^◌, ℤ, pos, ◌+ℤ◌, ◌≤ℤ◌, ◌<ℤ◌, List, [], ◌∷◌, ◌++◌, slice_get, Bool, Option, Some, None, MatchOption, FitsSigned}
 use Rattle.std.specs.Int.{w64}
 use Rattle.std.specs.List.{AllByRecursion}
+use Rattle.dn_arc.specs.Entries.{ArcSizes}
 use Rattle.dn_arc.specs.Kinds.{ArcKind}
 use Rattle.dn_arc.specs.State.CanonArcs.{NeedsMore}
 use Rattle.dn_arc.specs.State.Equivalences.{IsMeaning}
@@ -9,10 +10,18 @@ use Rattle.dn_arc.specs.declared.arc.Form.{Form}
 use Rattle.dn_arc.specs.declared.arc.Form.TheVariants.{One}
 use Rattle.dn_arc.specs.declared.difference.How.{How}
 
+-- says of two lists of arcs of one pair how they differ
+abbrev pub ArcDiffer : Type 0 → Type 1
+ArcDiffer Arc = List Arc → List Arc → How → Type 0
+
 -- what a kind of bundle specifies about itself
 pub record BundleFacts (B Arc : Type 0) : Type 1 where
   -- the kind of its arcs, which defines what they mean
   pub kind : ArcKind Arc
+  -- what must be kept of its arcs
+  pub sizes : ArcSizes Arc
+  -- the first difference in meaning between two lists of arcs of one pair
+  pub Differ : ArcDiffer Arc
   -- the canonical arcs that the bundle lists, by form; it represents all arcs that mean the same
   pub listed : Form → B → List Arc
   -- whether adding an arc may run out of memory
@@ -38,22 +47,28 @@ pub record IsKind {Arc : Type 0} (kind : ArcKind Arc) : Type 0 where
   -- arcs that mean the same have the same capacity
   pub same_capacity : (xs ys : List Arc) → AllByRecursion kind.IsArc xs → AllByRecursion kind.IsArc ys → kind.Same xs ys
       → kind.capacity xs ≡ kind.capacity ys
+
+-- the laws of what must be kept of arcs
+pub record AreSizes {Arc : Type 0} (kind : ArcKind Arc) (sizes : ArcSizes Arc) : Type 0 where
   -- arcs that mean the same make the same number of entries
   pub same_entries : (xs ys : List Arc) → AllByRecursion kind.IsArc xs → AllByRecursion kind.IsArc ys → kind.Same xs ys
-      → kind.entries xs ≡ kind.entries ys
+      → sizes.entries xs ≡ sizes.entries ys
   -- which arc spreads the forced units depends only on what the arcs mean
   pub same_spreads : (xs ys : List Arc) (a : Arc) → AllByRecursion kind.IsArc xs → AllByRecursion kind.IsArc ys
-      → kind.Same xs ys → kind.Spreads xs a → kind.Spreads ys a
+      → kind.Same xs ys → sizes.Spreads xs a → sizes.Spreads ys a
   -- no arcs make no entries, and arcs that make none mean the same as no arcs
-  pub none_entries : kind.entries [] ≡ 0
-  pub no_entries : (xs : List Arc) → AllByRecursion kind.IsArc xs → kind.entries xs ≡ 0 → kind.Same xs []
+  pub none_entries : sizes.entries [] ≡ 0
+  pub no_entries : (xs : List Arc) → AllByRecursion kind.IsArc xs → sizes.entries xs ≡ 0 → kind.Same xs []
+
+-- the laws of first differences in meaning
+pub record AreDifferences {Arc : Type 0} (kind : ArcKind Arc) (Differ : ArcDiffer Arc) : Type 0 where
   -- arcs that mean the same have no difference
-  pub none_differ : (xs ys : List Arc) (how : How) → kind.Differ xs ys how → kind.Same xs ys → ⊥
+  pub none_differ : (xs ys : List Arc) (how : How) → Differ xs ys how → kind.Same xs ys → ⊥
   -- two lists of arcs have at most one first difference
-  pub one_differ : (xs ys : List Arc) (how other : How) → kind.Differ xs ys how → kind.Differ xs ys other → how ≡ other
+  pub one_differ : (xs ys : List Arc) (how other : How) → Differ xs ys how → Differ xs ys other → how ≡ other
   -- the first difference depends only on what the arcs mean
-  pub same_differ : (xs xs' ys ys' : List Arc) (how : How) → kind.Same xs xs' → kind.Same ys ys' → kind.Differ xs ys how
-      → kind.Differ xs' ys' how
+  pub same_differ : (xs xs' ys ys' : List Arc) (how : How) → kind.Same xs xs' → kind.Same ys ys' → Differ xs ys how
+      → Differ xs' ys' how
 
 -- canonical arcs of one form that mean the same are equal
 abbrev pub IsDetermined : {Arc : Type 0} → ArcKind Arc → Type 0
@@ -90,7 +105,7 @@ module _ {B Arc : Type 0} (bundle : BundleFacts B Arc) where
 
   -- one more arc of a bundle needs memory
   abbrev pub Widens : B → Arc → Type 0
-  Widens b arc = NeedsMore bundle.kind (meant b) arc
+  Widens b arc = NeedsMore bundle.sizes (meant b) arc
 
   -- with one more arc, the capacities of a bundle sum to more than 2 ^ 63 - 1
   abbrev pub PassesSum : B → Arc → Type 0
@@ -101,4 +116,4 @@ module _ {B Arc : Type 0} (bundle : BundleFacts B Arc) where
   abbrev pub IsHow : Option B → Option B → Option How → Type 0
   IsHow left right how =
       MatchOption how (bundle.kind.Same (listed_of meant left) (listed_of meant right))
-      (bundle.kind.Differ (listed_of meant left) (listed_of meant right))
+      (bundle.Differ (listed_of meant left) (listed_of meant right))

@@ -1,6 +1,7 @@
 -- Canonical arcs that represent the arcs of one ordered pair, and which arc of a pair needs memory.
 use Rattle.std.specs.Prelude.{◌⊎◌, ◌<◌, List, [], ◌∷◌, ◌++◌}
 use Rattle.dn_arc.specs.declared.arc.Form.TheVariants.{One}
+use Rattle.dn_arc.specs.Entries.{ArcSizes}
 use Rattle.dn_arc.specs.Kinds.{ArcKind}
 
 -- canonical arcs in form 1 that mean the same as these arcs
@@ -9,5 +10,5 @@ pub record AreCanonArcsOf {Arc : Type 0} (kind : ArcKind Arc) (listed arcs : Lis
   pub same : kind.Same listed arcs
 
 -- one more arc of the pair needs memory: it makes another entry, or spreads the forced units
-abbrev pub NeedsMore : {Arc : Type 0} → ArcKind Arc → List Arc → Arc → Type 0
-NeedsMore kind arcs a = (kind.entries arcs < kind.entries (arcs ++ a ∷ [])) ⊎ kind.Spreads arcs a
+abbrev pub NeedsMore : {Arc : Type 0} → ArcSizes Arc → List Arc → Arc → Type 0
+NeedsMore sizes arcs a = (sizes.entries arcs < sizes.entries (arcs ++ a ∷ [])) ⊎ sizes.Spreads arcs a

@@ -1,5 +1,5 @@
 // The canonical arcs that a curve lists, in both forms.
-ghost use Rattle.std.specs.Prelude.{◌≡◌, ◌+◌, ◌+ℤ◌, length, slice_get, Some, find, cond, int_lt, FitsSigned};
+ghost use Rattle.std.specs.Prelude.{◌≡◌, ◌+◌, ◌+ℤ◌, length, slice_get, Some, IfSome, Contains, find, cond, int_lt, FitsSigned};
 ghost use Rattle.std.specs.Option.{option_map, ForSome};
 ghost use Rattle.std.specs.Int.{w64};
 ghost use Rattle.dn_arc.specs.State.Bundles.{IsAfter};
@@ -147,10 +147,11 @@ impl Curve {
         if self.has_step(cost) { 0 } else { 1 }
     }
 
-    // Returns the canonical arc of form 1 after this arc.
+    // Returns the canonical arc of form 1 after this arc, and some canonical arc or `None` if this arc is none.
     #[inline(always)]
     pub(super) fn after_one(&self, arc: &CostArc) -> Option<CostArc>
-        ensures { IsAfter (form_one_arcs self.now) arc.now result }
+        ensures after { IsAfter (form_one_arcs self.now) arc.now result }
+        ensures listed { IfSome result (Contains (form_one_arcs self.now)) }
     {
         if arc.low == 0 {
             return free_of(self.step_past(&arc.cost));

@@ -20,7 +20,6 @@ use Rattle.dn_c.specs.State.Walks.{CopiesFrom}
 use Rattle.dn_c.specs.declared.place.Place.{Place}
 use Rattle.dn_table.specs.State.Tables.{CountsBelow}
 use Rattle.dn_c.specs.declared.items.Item.{Item}
-use Rattle.dn_instance.specs.declared.refusal.Refusal.TheVariants.{Memory}
 use Rattle.dn_c.specs.State.Statuses.{fine, wrong_call, refused_with, fine_count, wrong_count, too_many}
 use Rattle.dn_c.specs.declared.arcs.Arc.{Arc}
 use Rattle.dn_c.specs.declared.status.Count.{Count}
@@ -113,9 +112,7 @@ abbrev pub PrintsInto : Work → ℕ → Option Work → Option Work → Status 
 PrintsInto work form (Some was) new status = (new ≡ Some was) × (status ≡ wrong_call)
 PrintsInto (Works.Read held _) form None new status =
     ((text : Vec ℕ) × (new ≡ Some (Works.Text text)) × (status ≡ fine) × HasText held (form_numbered form) (Ok text))
-    ⊎ ((new ≡ None)
-    × (((e : Refusal) × (status ≡ refused_with e) × HasText held (form_numbered form) (Err e))
-    ⊎ (status ≡ refused_with Memory)))
+    ⊎ ((new ≡ None) × ((e : Refusal) × (status ≡ refused_with e) × HasText held (form_numbered form) (Err e)))
 PrintsInto work form None new status = (new ≡ None) × (status ≡ wrong_call)
 
 -- the same of the instance that another handle holds, if it holds one

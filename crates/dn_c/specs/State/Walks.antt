@@ -1,5 +1,5 @@
 -- Walks over the canonical arcs of a table, which can go on from any arc.
-use Rattle.std.specs.Prelude.{◌≡◌, ◌+◌, ℕ, ℤ, List, [], ◌∷◌, ◌++◌, take, drop, length, slice_get, Option, None, Some, MatchOption}
+use Rattle.std.specs.Prelude.{◌≡◌, ◌+◌, ℕ, ℤ, List, [], ◌∷◌, ◌++◌, take, drop, length, slice_get, Option, None, Some, MatchOption, All, Contains}
 use Rattle.dn_arc.specs.State.Bundles.{IsAfter}
 use Rattle.dn_canon.specs.State.ListedArcs.{placed, listed_arcs}
 use Rattle.dn_c.specs.State.Places.{last_before}
@@ -37,6 +37,13 @@ Fills {A = A} numbers lists table index last room Has n next taken =
     → Has (rows_by numbers (take room left)) × (n ≡ length (take room left))
     × IsLeft lists (drop next table) taken (drop n left)
 
+-- this many arcs that the table lists are copied, from wherever the walk goes on
+abbrev pub CopiesListed : {B A : Type 0} → (A → List ℤ) → (B → List A) → List ((ℤ × ℤ) × B) → (List Arc → Type 0) → ℕ
+    → Type 0
+CopiesListed {A = A} numbers lists table Has n =
+    (arcs : List ((ℤ × ℤ) × A)) × All (Contains (listed_arcs lists table)) arcs × Has (rows_by numbers arcs)
+    × (n ≡ length arcs)
+
 -- `out` begins with these rows
 abbrev pub HasRows : List Arc → List Arc → Type 0
 HasRows out rows = take (length rows) out ≡ rows
@@ -49,7 +56,7 @@ IsLeftAfter {A = A} numbers lists arc table place rows =
     × (rows ≡ rows_by numbers left)
 
 -- wherever these rows are left after the old place, the first n of them are copied, as many as there is room for, and
--- the others are left after the new place
+-- the others are left after the new place. After any other place, some arcs of the table are copied, or none
 abbrev pub CopiesFrom : {B A : Type 0} → (A → List ℤ) → (B → List A) → (Place → A) → List ((ℤ × ℤ) × B) → Place → Place
     → ℕ → (List Arc → Type 0) → Count → Type 0
 CopiesFrom numbers lists arc table old new room Has result =
@@ -57,3 +64,4 @@ CopiesFrom numbers lists arc table old new room Has result =
     × ((rows : List Arc) → IsLeftAfter numbers lists arc table old rows
     → Has (take room rows) × (result.count ≡ length (take room rows))
     × IsLeftAfter numbers lists arc table new (drop result.count rows))
+    × CopiesListed numbers lists table Has result.count

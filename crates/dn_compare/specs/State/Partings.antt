@@ -4,7 +4,7 @@ use Rattle.std.specs.BTreeMap.{is_at}
 use Rattle.std.specs.Map.{lookup}
 use Rattle.std.specs.declared.cmp.Ordering.{Ordering}
 use Rattle.std.specs.declared.cmp.Ordering.TheVariants.{Less}
-use Rattle.dn_arc.specs.State.Bundles.{listed_of}
+use Rattle.dn_arc.specs.State.Bundles.{ArcDiffer, listed_of}
 use Rattle.dn_arc.specs.Kinds.{ArcKind}
 use Rattle.dn_arc.specs.declared.difference.How.{How}
 use Rattle.dn_instance.specs.State.Helds.{Contents, Shows}
@@ -40,10 +40,10 @@ module _ {K V W : Type 0} (cmp : K → K → Ordering) (by : Comparison V W) (le
   IsParting parting = MatchOption parting ((k : K) → AlikeAt k) (λ x. PartAt x.0 x.1)
 
 -- compares bundles by the meaning of the arcs that they list
-abbrev pub by_meaning : {B Arc : Type 0} → ArcKind Arc → (B → List Arc) → Comparison B How
-by_meaning kind lists = record {
+abbrev pub by_meaning : {B Arc : Type 0} → ArcKind Arc → ArcDiffer Arc → (B → List Arc) → Comparison B How
+by_meaning kind ArcsDiffer lists = record {
   Alike = λ a b. kind.Same (listed_of lists a) (listed_of lists b);
-  Differ = λ a b how. kind.Differ (listed_of lists a) (listed_of lists b) how;
+  Differ = λ a b how. ArcsDiffer (listed_of lists a) (listed_of lists b) how;
 }
 
 -- compares flows, and says both if they differ
@@ -58,22 +58,24 @@ abbrev pub by_point : Comparison (ℤ × ℤ) (Unit {0})
 by_point = record { Alike = λ a b. a ≡ b; Differ = λ a b what. a ≢ b }
 
 -- the least pair at which the arcs of two graphs differ in meaning, and how
-pub record ArcsPartAt {Arc : Type 0} (kind : ArcKind Arc) (xs ys : List ((ℤ × ℤ) × Arc))
-    (pair : ℤ × ℤ) (how : How) : Type 0 where
-  pub differ : kind.Differ (bundle pair xs) (bundle pair ys) how
+pub record ArcsPartAt {Arc : Type 0} (kind : ArcKind Arc) (ArcsDiffer : ArcDiffer Arc)
+    (xs ys : List ((ℤ × ℤ) × Arc)) (pair : ℤ × ℤ) (how : How) : Type 0 where
+  pub differ : ArcsDiffer (bundle pair xs) (bundle pair ys) how
   pub same_before : (p : ℤ × ℤ) → pair_cmp p pair ≡ Less → kind.Same (bundle p xs) (bundle p ys)
 
 -- the graphs mean the same at every pair, or this is where they first differ
-abbrev pub IsArcsParting : {Arc : Type 0} → ArcKind Arc → List ((ℤ × ℤ) × Arc) → List ((ℤ × ℤ) × Arc)
+abbrev pub IsArcsParting : {Arc : Type 0} → ArcKind Arc → ArcDiffer Arc → List ((ℤ × ℤ) × Arc) → List ((ℤ × ℤ) × Arc)
     → Option ((ℤ × ℤ) × How) → Type 0
-IsArcsParting kind xs ys parting =
-    MatchOption parting ((p : ℤ × ℤ) → kind.Same (bundle p xs) (bundle p ys)) (λ x. ArcsPartAt kind xs ys x.0 x.1)
+IsArcsParting kind ArcsDiffer xs ys parting =
+    MatchOption parting ((p : ℤ × ℤ) → kind.Same (bundle p xs) (bundle p ys))
+    (λ x. ArcsPartAt kind ArcsDiffer xs ys x.0 x.1)
 
 -- the verdict on two graphs with the same NODES and the same supplies or terminals
-abbrev pub IsPairVerdict : {Arc : Type 0} → ArcKind Arc → List ((ℤ × ℤ) × Arc) → List ((ℤ × ℤ) × Arc) → Verdict → Type 0
-IsPairVerdict kind xs ys Same = (p : ℤ × ℤ) → kind.Same (bundle p xs) (bundle p ys)
-IsPairVerdict kind xs ys (Pair src dst how) = ArcsPartAt kind xs ys (src, dst) how
-IsPairVerdict kind xs ys _ = ⊥
+abbrev pub IsPairVerdict : {Arc : Type 0} → ArcKind Arc → ArcDiffer Arc → List ((ℤ × ℤ) × Arc) → List ((ℤ × ℤ) × Arc)
+    → Verdict → Type 0
+IsPairVerdict kind ArcsDiffer xs ys Same = (p : ℤ × ℤ) → kind.Same (bundle p xs) (bundle p ys)
+IsPairVerdict kind ArcsDiffer xs ys (Pair src dst how) = ArcsPartAt kind ArcsDiffer xs ys (src, dst) how
+IsPairVerdict kind ArcsDiffer xs ys _ = ⊥
 
 -- the least index, counted from 1, at which two lists differ
 pub record ItemsPartAt {A : Type 0} (xs ys : List A) (index : ℕ) : Type 0 where

@@ -23,4 +23,4 @@ module _ {B Arc : Type 0} (bundle : BundleFacts B Arc) where
   abbrev pub NeedsForArc : List ((ℤ × ℤ) × B) → (ℤ × ℤ) × Arc → Result (Unit {0}) ItemFault → Type 0
   NeedsForArc table a result =
       (arcs : List ((ℤ × ℤ) × Arc)) → Lists bundle table arcs → AreArcs bundle.kind arcs → result ≡ Err Memory
-      → GraphNeedsMore bundle.kind arcs a
+      → GraphNeedsMore bundle.sizes arcs a

@@ -8,6 +8,7 @@ use Rattle.dn_line.specs.declared.kind.Kind.{Kind}
 use Rattle.dn_line.specs.declared.line.Line.{Line}
 use Rattle.dn_line.specs.declared.row.Row.{Row}
 use Rattle.dn_line.specs.declared.row_block.RowLine.{RowLine}
+use Rattle.dn_arc.specs.Entries.{ArcSizes}
 use Rattle.dn_arc.specs.Kinds.{ArcKind}
 use Rattle.dn_nodes.specs.State.Nodes.{Nodes, is_known}
 use Rattle.dn_table.specs.State.Tables.{AreArcs, GraphNeedsMore, Stays, TableLists}
@@ -92,13 +93,13 @@ pub record SaysFault {Arc : Type 0} (kind : ArcKind Arc) (nodes : ℤ) (arcs : L
 
 -- the row's item is this arc, between the nodes of the first two numbers, and it has the faults of the arc and needs
 -- memory where the arc does
-pub record IsArcOfRow {Arc : Type 0} (text : Kind) (kind : ArcKind Arc) (arc_in : Line → Option ((ℤ × ℤ) × Arc))
-    (row : Row) (arc : Arc) : Type 0 where
+pub record IsArcOfRow {Arc : Type 0} (text : Kind) (kind : ArcKind Arc) (sizes : ArcSizes Arc)
+    (arc_in : Line → Option ((ℤ × ℤ) × Arc)) (row : Row) (arc : Arc) : Type 0 where
   pub in_line : arc_in (counted_line text row) ≡ Some ((row.first, row.second), arc)
   pub faults : (nodes : ℤ) (before : List Line) → Awaits text nodes before (counted_line text row ∷ [])
       → SaysFault kind nodes (arcs_of arc_in before) ((row.first, row.second), arc)
       (first_fault (item_tests before (Some (counted_line text row))))
   pub needs : (nodes : ℤ) (before next : List Line) → Awaits text nodes before next
-      → GraphNeedsMore kind (arcs_of arc_in before) ((row.first, row.second), arc)
+      → GraphNeedsMore sizes (arcs_of arc_in before) ((row.first, row.second), arc)
       → NeedsMemory before (counted_line text row)
   pub stays : Stays kind

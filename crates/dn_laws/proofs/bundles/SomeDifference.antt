@@ -45,7 +45,7 @@ length_there xs ys None h g v l = absurd (rw h at l).has
 length_there xs ys (Some w) h g v l = rw (Least.least_unique xs w v h l) at g
 
 -- lists with the same least length, or with none, mean the same
-same_by_length : (xs ys : List LengthArc) (w : Option ℤ) → IsLengthOf xs w → IsLengthOf ys w → SameLength xs ys
+pub same_by_length : (xs ys : List LengthArc) (w : Option ℤ) → IsLengthOf xs w → IsLengthOf ys w → SameLength xs ys
 same_by_length xs ys w l r = record { there = length_there xs ys w l r; back = length_there ys xs w r l }
 
 pub length_or_differ : (xs ys : List LengthArc) → SameLength xs ys ⊎ ((how : How) × LengthsDiffer xs ys how)

@@ -10,7 +10,8 @@ use Rattle.std.specs.declared.cmp.Ordering.TheVariants.{Less, Equal, Greater}
 use Rattle.std.proofs.lemmas.Bool.{both_ways, cases_Bool, cases_eq}
 use Rattle.std.proofs.lemmas.Cmp.{int_cmp_total}
 use Rattle.std.proofs.lemmas.Map.Lookups.{CmpEqualImpliesEq, exact_signed}
-use Rattle.dn_arc.specs.State.Bundles.{IsKind}
+use Rattle.dn_arc.specs.Differences.{CurvesDiffer, LengthsDiffer, TotalsDiffer}
+use Rattle.dn_arc.specs.State.Bundles.{ArcDiffer, IsKind}
 use Rattle.dn_arc.specs.Kinds.{ArcKind, costs, capacities, lengths}
 use Rattle.dn_arc.specs.declared.difference.How.{How}
 use Rattle.dn_arc.proofs.CostKindLaws.{cost_kind}
@@ -82,28 +83,29 @@ module _ {K : Type 0} (cmp : K → K → Ordering) (total : IsTotalOrder cmp) (e
 -- ---- graphs
 
 -- a pair that no arc has has no arcs
-bundle_apart : {Arc : Type 0} (p : ℤ × ℤ) (arcs : List ((ℤ × ℤ) × Arc)) → IsApart (same_pair p) (keys_of arcs)
+pub bundle_apart : {Arc : Type 0} (p : ℤ × ℤ) (arcs : List ((ℤ × ℤ) × Arc)) → IsApart (same_pair p) (keys_of arcs)
     → bundle p arcs ≡ []
 bundle_apart p [] h = refl
 bundle_apart p (a ∷ arcs) h = rw (h.0) (bundle_apart p arcs h.1)
 
 -- at a pair that no arc has, neither list has arcs
-same_outside : {Arc : Type 0} (kind : ArcKind Arc) (laws : IsKind kind) (xs ys : List ((ℤ × ℤ) × Arc)) (p : ℤ × ℤ)
+pub same_outside : {Arc : Type 0} (kind : ArcKind Arc) (laws : IsKind kind) (xs ys : List ((ℤ × ℤ) × Arc)) (p : ℤ × ℤ)
     → IsApart (same_pair p) (keys_of xs ++ keys_of ys) → kind.Same (bundle p xs) (bundle p ys)
 same_outside kind laws xs ys p h =
     let both = apart_both (same_pair p) (keys_of xs) (keys_of ys) h in
     rw (bundle_apart p xs both.0, bundle_apart p ys both.1) (laws.meaning.same_refl [])
 
-some_pair : {Arc : Type 0} (kind : ArcKind Arc) (laws : IsKind kind)
+some_pair : {Arc : Type 0} (kind : ArcKind Arc) (Differ : ArcDiffer Arc) (laws : IsKind kind)
     → ((xs ys : List Arc) → AllByRecursion kind.IsArc xs → AllByRecursion kind.IsArc ys
-    → kind.Same xs ys ⊎ ((how : How) × kind.Differ xs ys how))
-    → (G H : Graph Arc) → IsValidGraph kind G → IsValidGraph kind H → (v : Verdict) × IsPairVerdict kind G.arcs H.arcs v
-some_pair kind laws decide G H g h =
+    → kind.Same xs ys ⊎ ((how : How) × Differ xs ys how))
+    → (G H : Graph Arc) → IsValidGraph kind G → IsValidGraph kind H
+    → (v : Verdict) × IsPairVerdict kind Differ G.arcs H.arcs v
+some_pair kind Differ laws decide G H g h =
     let are : (n : ℤ) (p : ℤ × ℤ) (arcs : List _) → AllByRecursion (IsPlaced kind n) arcs
     → AllByRecursion kind.IsArc (bundle p arcs) =
     λ n. all_at_pair (IsPlaced kind n) kind.IsArc (λ a x. x.is_arc) in
     elim (least pair_cmp pair_total exact_pair (λ p. kind.Same (bundle p G.arcs) (bundle p H.arcs))
-    (λ p. (how : How) × kind.Differ (bundle p G.arcs) (bundle p H.arcs) how)
+    (λ p. (how : How) × Differ (bundle p G.arcs) (bundle p H.arcs) how)
     (λ p. decide (bundle p G.arcs) (bundle p H.arcs) (are G.nodes p G.arcs g.placed) (are H.nodes p H.arcs h.placed))
     (keys_of G.arcs ++ keys_of H.arcs) (same_outside kind laws G.arcs H.arcs)) [
       | inl all ↦ (Verdicts.Same, all)
@@ -113,13 +115,13 @@ some_pair kind laws decide G H g h =
 -- ---- maps
 
 -- a key that no entry has has no value
-lookup_apart : {K X : Type 0} (test : K → Bool) (es : List (K × X)) → IsApart test (keys_of es)
+pub lookup_apart : {K X : Type 0} (test : K → Bool) (es : List (K × X)) → IsApart test (keys_of es)
     → lookup test es ≡ None
 lookup_apart test [] h = refl
 lookup_apart test (e ∷ es) h = rw (h.0) (lookup_apart test es h.1)
 
 -- at an ID that no entry has, neither list has a value
-alike_outside : {X : Type 0} (es fs : List (ℤ × X)) (P : Option X → Option X → Type 0) → P None None → (q : ℤ)
+pub alike_outside : {X : Type 0} (es fs : List (ℤ × X)) (P : Option X → Option X → Type 0) → P None None → (q : ℤ)
     → IsApart (is_at (int_cmp q)) (keys_of es ++ keys_of fs) → P (value_of es q) (value_of fs q)
 alike_outside es fs P nothing q h =
     let both = apart_both (is_at (int_cmp q)) (keys_of es) (keys_of fs) h in
@@ -145,7 +147,7 @@ same_pair_or_not a b = elim (cases_Bool (same_pair a b)) [
 
 -- ---- lists
 
-later_place : {A : Type 0} (x y : A) (xs ys : List A) (i : ℕ) → x ≡ y → ItemsPartAt xs ys i
+pub later_place : {A : Type 0} (x y : A) (xs ys : List A) (i : ℕ) → x ≡ y → ItemsPartAt xs ys i
     → ItemsPartAt (x ∷ xs) (y ∷ ys) (suc i)
 later_place x y xs ys zero e d = absurd (d.differ refl)
 later_place x y xs ys (suc i) e d = record { differ = d.differ; same_before = before }
@@ -155,7 +157,7 @@ later_place x y xs ys (suc i) e d = record { differ = d.differ; same_before = be
     before (suc zero) lt = ap Some e
     before (suc (suc j)) lt = d.same_before (suc j) (omega (arith, lt))
 
-first_place : {A : Type 0} (x y : A) (xs ys : List A) → x ≢ y → ItemsPartAt (x ∷ xs) (y ∷ ys) 1
+pub first_place : {A : Type 0} (x y : A) (xs ys : List A) → x ≢ y → ItemsPartAt (x ∷ xs) (y ∷ ys) 1
 first_place x y xs ys n = record { differ = inner x y n; same_before = before }
   where
     before : (j : ℕ) → j < 1 → item_at (x ∷ xs) j ≡ item_at (y ∷ ys) j
@@ -199,7 +201,7 @@ some_min s t G H g h n =
     elim (least_id s t (λ a b. flow_or_zero a ≡ flow_or_zero b) (λ a b. flow_or_zero a ≢ flow_or_zero b)
     (λ a b. same_or_not (flow_or_zero a) (flow_or_zero b)) refl) [
       | inl all ↦
-          (let p = some_pair costs cost_kind curve_or_differ G H g.0 h.0 in
+          (let p = some_pair costs CurvesDiffer cost_kind curve_or_differ G H g.0 h.0 in
           (p.0, min_pairs s t G H p.0 (supplies_same G.nodes H.nodes s t g.1.map h.1.map g.1.each h.1.each all) n p.1))
       | inr l ↦ (_, supply_at s t G H l.0 _ _ n (record { differ = (refl, refl, l.1); same_before = l.2 }))
     ]
@@ -209,7 +211,7 @@ some_max : (a b c d : ℤ) (G H : Graph _) → IsValid (MaxFlow a b G) → IsVal
 some_max a b c d G H g h n = elim (same_or_not a c) [
   | inl e ↦ elim (same_or_not b d) [
     | inl f ↦
-        (let p = some_pair capacities total_kind (λ xs ys x y. total_or_differ xs ys) G H g.0 h.0 in
+        (let p = some_pair capacities TotalsDiffer total_kind (λ xs ys x y. total_or_differ xs ys) G H g.0 h.0 in
         (p.0, max_pairs a b c d G H p.0 e f n p.1))
     | inr m ↦ (_, sink_first (MaxFlow a b G) _ refl n (λ id. refl) (ap Some e) b d (refl, refl, inner b d m))
   ]
@@ -219,7 +221,7 @@ some_max a b c d G H g h n = elim (same_or_not a c) [
 some_sp : (G H : Graph _) → IsValid (ShortestPaths G) → IsValid (ShortestPaths H) → G.nodes ≡ H.nodes
     → AnyVerdict (ShortestPaths G) (ShortestPaths H)
 some_sp G H g h n =
-    let p = some_pair lengths length_kind (λ xs ys x y. length_or_differ xs ys) G H g h in
+    let p = some_pair lengths LengthsDiffer length_kind (λ xs ys x y. length_or_differ xs ys) G H g h in
     (p.0, sp_pairs G H p.0 n p.1)
 
 some_points : (xs ys : List (ℤ × (ℤ × ℤ))) → IsValid (Coordinates xs) → IsValid (Coordinates ys)

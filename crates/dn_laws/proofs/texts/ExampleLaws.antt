@@ -1,5 +1,5 @@
 -- Lemmas on the worked `min` problem on one pair: it is valid, canonical, and the same as its canonical arcs.
-use Rattle.std.proofs.Common.{◌≡◌, ℤ, pos, ◌≤ℤ◌, ◌-◌, ◌^◌, List, [], inl, inr, cond, refl, arith, rules, append-nil}
+use Rattle.std.proofs.Common.{◌≡◌, ℤ, pos, ◌≤ℤ◌, ◌-◌, ◌^◌, List, [], inl, inr, cond, int_cmp, refl, arith, rules, append-nil}
 use Rattle.std.proofs.lemmas.Bool.{cases_Bool, cond_both}
 use Rattle.std.proofs.lemmas.Int.{ints}
 use Rattle.std.specs.List.{AllByRecursion}
@@ -48,7 +48,7 @@ valid_at arcs each sum = (
     placed = each;
     capacities = at_each (λ l. cost_cap l ≤ℤ pos (2 ^ 63 - 1)) arcs sum (omega (arith, ints));
   },
-  record { map = no_keys; each = tt },
+  record { map = no_keys int_cmp; each = tt },
 )
 
 pub placed_arc : (a : CostArc) → IsCostArc a → Fits a.low → Fits a.cap → Fits a.cost → IsPlaced costs (pos 2) (here, a)

@@ -2,9 +2,11 @@
 ghost use Rattle.std.specs.Prelude.{◌≡◌, codes, [], ◌∷◌, pos, negsuc};
 ghost use Rattle.dn_instance.specs.State.InstanceEntries.{entries_of};
 ghost use Rattle.dn_instance.specs.Instances.{MinCostFlow, MaxFlow, ShortestPaths, Sources, Queries, Coordinates};
+ghost use Rattle.dn_instance.specs.Companions.{companion_fit};
 ghost use Rattle.dn_instance.specs.Texts.{Reads, IsFirstFault};
+ghost use Rattle.dn_laws.specs.State.DifferenceExamples.{supplied, with_lengths};
 
-use dn_instance::Place;
+use dn_instance::{CompanionFault, Place};
 use dn_line::Code;
 
 /// First faults of one line, which show the order of checking.
@@ -115,4 +117,17 @@ pub fn entries()
           ∷ ((pos 1, pos 2), record { cap = pos 5 }) ∷ [];
     }))
         ≡ 1 }
+{}
+
+/// Companions of an `sp` graph of three nodes: one that fits, and the first node above 3 in the order of the file. No
+/// graph is a companion, and other problems have none.
+pub fn companions()
+    ensures sources { companion_fit (with_lengths []) (Sources (pos 3 ∷ pos 1 ∷ [])) ≡ Ok tt }
+    ensures queries { companion_fit (with_lengths []) (Queries ((pos 3, pos 5) ∷ (pos 4, pos 1) ∷ []))
+        ≡ Err (CompanionFault.NotInGraph (pos 5)) }
+    ensures points { companion_fit (with_lengths [])
+        (Coordinates ((pos 4, (pos 0, pos 0)) ∷ (pos 9, (pos 0, pos 0)) ∷ []))
+        ≡ Err (CompanionFault.NotInGraph (pos 4)) }
+    ensures graph { companion_fit (with_lengths []) (with_lengths []) ≡ Err CompanionFault.NotKinds }
+    ensures problem { companion_fit (supplied []) (Sources []) ≡ Err CompanionFault.NotKinds }
 {}

@@ -1,7 +1,11 @@
 // Laws of texts and instances.
-ghost use Rattle.std.specs.Prelude.{◌≡◌, ◌⊎◌, ℕ, ℤ, List};
-ghost use Rattle.std.specs.List.Sorted.{IsPermutation};
+ghost use Rattle.std.specs.Prelude.{◌≡◌, ◌⊎◌, ℕ, ℤ, List, ◌∷◌, ◌++◌, map};
+ghost use Rattle.std.specs.List.Sorted.{IsPermutation, IsStrictlySortedBy};
+ghost use Rattle.std.specs.Ordering.{nat_cmp};
+ghost use Rattle.dn_line.specs.State.Ranks.{code_rank};
 ghost use Rattle.dn_line.specs.declared.code.Code.{Code};
+ghost use Rattle.dn_line.specs.declared.line.Line.{Line};
+ghost use Rattle.dn_line.specs.declared.word.Word.{Word};
 ghost use Rattle.dn_arc.specs.declared.arc.LengthArc.{LengthArc};
 ghost use Rattle.dn_arc.specs.declared.arc.CapArc.{CapArc};
 ghost use Rattle.dn_arc.specs.declared.arc.CostArc.{CostArc};
@@ -11,6 +15,7 @@ ghost use Rattle.dn_instance.specs.State.Helds.{Parsed, IsHeld};
 ghost use Rattle.dn_instance.specs.Instances.{Instance};
 ghost use Rattle.dn_instance.specs.State.Parts.{AreParts, AreSame};
 ghost use Rattle.dn_instance.specs.Sameness.{IsSame, SameGraph};
+ghost use Rattle.dn_instance.specs.TextFaults.{is_too_long, line_tests, end_tests};
 ghost use Rattle.dn_instance.specs.Texts.{Reads, IsFirstFault};
 ghost use Rattle.dn_instance.specs.Validity.{IsValid};
 
@@ -23,6 +28,13 @@ pub fn one_reading()
 pub fn one_first_fault()
     ensures place { (t : List ℕ) (p q : Place) (c d : Code) → IsFirstFault t p c → IsFirstFault t q d → p ≡ q }
     ensures code { (t : List ℕ) (p q : Place) (c d : Code) → IsFirstFault t p c → IsFirstFault t q d → c ≡ d }
+{}
+
+/// Ranks strictly rise along the tests of a line, and from there along those of the end of a text. So of two faults,
+/// the one with the lower rank is checked first.
+pub fn ranks()
+    ensures { (n : ℕ) (before items : List Line) (ws : List Word) → IsStrictlySortedBy nat_cmp
+        (map (λ t. code_rank t.0) ((Code.TooLong, is_too_long n) ∷ (line_tests before ws ++ end_tests items))) }
 {}
 
 /// A text reads as an instance if and only if it has no first fault.

@@ -1,5 +1,5 @@
 // Laws of canonical texts.
-ghost use Rattle.std.specs.Prelude.{◌≡◌, ◌↔◌, ℕ, ◌-◌, ◌<◌, ◌^◌, ℤ, List, ◌++◌, length};
+ghost use Rattle.std.specs.Prelude.{◌≡◌, ◌↔◌, ℕ, ◌-◌, ◌<◌, ◌≤◌, ◌^◌, ℤ, List, ◌++◌, length};
 ghost use Rattle.std.specs.List.{AllByRecursion, sum_by};
 ghost use Rattle.dn_line.specs.Pieces.{lines};
 ghost use Rattle.dn_arc.specs.declared.arc.CapArc.{CapArc};
@@ -11,12 +11,24 @@ ghost use Rattle.dn_instance.specs.Texts.{Reads};
 ghost use Rattle.dn_instance.specs.Validity.{IsValid, AreSupplies, AreTerminals};
 ghost use Rattle.dn_canon.specs.CanonInstances.{IsCanonInstanceOf};
 ghost use Rattle.dn_canon.specs.State.CanonReadings.{ReadsTwice};
-ghost use Rattle.dn_canon.specs.CanonTexts.{IsCanonOf};
+ghost use Rattle.dn_canon.specs.CanonTexts.{IsCanonOf, IsTooLarge};
 ghost use Rattle.dn_canon.specs.State.PartCanons.{HasCanonParts, AreRanges, arc_rows, gathered_rows, head_rows};
 ghost use Rattle.dn_canon.specs.Prints.{rows};
 ghost use Rattle.dn_sink.specs.Rows.{text_of};
 
 use dn_bundle::Form;
+
+/// Each valid instance has exactly one canonical text in each form. By `valid_reading`, each instance that a text reads
+/// as is valid.
+pub fn canonical_text(form: Form)
+    ensures some { (I : Instance) → IsValid I → (t : List ℕ) × IsCanonOf form t I }
+    ensures one { (I : Instance) (t u : List ℕ) → IsCanonOf form t I → IsCanonOf form u I → t ≡ u }
+{}
+
+/// An instance has a canonical text of too many lines if and only if its canonical instance has so many arcs or items.
+pub fn too_large(form: Form)
+    ensures { (I J : Instance) → IsCanonInstanceOf form J I → IsTooLarge form I ↔ (2 ^ 63 ≤ size_of J) }
+{}
 
 /// Canonical texts of the same form are equal if and only if their instances are the same problem.
 pub fn same_bytes(form: Form)

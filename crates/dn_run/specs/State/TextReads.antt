@@ -10,7 +10,7 @@ use Rattle.dn_instance.specs.declared.refusal.Refusal.TheVariants.{Read}
 use Rattle.dn_run.specs.Answers.{Refused}
 use Rattle.dn_run.specs.State.Endings.{stopped}
 use Rattle.dn_run.specs.declared.stop.Stop.{Stop}
-use Rattle.dn_run.specs.Texts.{AskedText, HasFailed, IsRefusedCopy, unopened}
+use Rattle.dn_run.specs.Texts.{AskedText, IsRefusedCopy, unopened}
 
 -- what reading the text b returns: a parsed instance that represents the instance that b reads as, or a reason to
 -- refuse b
@@ -22,20 +22,20 @@ ReadsAs Refuses b (Err refusal) = Refuses b refusal
 -- they handed it out and the result is `Read`, its source has failed. If they handed it out and the bytes behind its
 -- name are known, the result is one of reading these bytes. In each case a parsed instance represents an instance that
 -- some text reads as, and a refusal is one of reading
-pub record IsRead {T : Type 0} (Refuses : List ℕ → Refusal → Type 0) (text : AskedText T)
-    (result : Result Parsed Refusal) : Type 0 where
+pub record IsRead (Refuses : List ℕ → Refusal → Type 0) (text : AskedText) (result : Result Parsed Refusal)
+    : Type 0 where
   pub not_handed : IfSome text.fault (λ fault. result ≡ Err (unopened fault))
-  pub failed : text.fault ≡ None → IsErrOf result Read → HasFailed text
+  pub failed : text.fault ≡ None → IsErrOf result Read → text.HasFailed
   pub handed : text.fault ≡ None → IfSome text.behind (λ b. ReadsAs Refuses b result)
   pub held : IfOk result HoldsSome
   pub refusal : IfErr result IsOfReading
 
 -- if the text was handed out and read, and the bytes behind its name are known, the copy is these bytes
-abbrev pub IsCopy : {T : Type 0} → AskedText T → List ℕ → Result Parsed Refusal → Type 0
+abbrev pub IsCopy : AskedText → List ℕ → Result Parsed Refusal → Type 0
 IsCopy text copy result = text.fault ≡ None → IfSome text.behind (λ b. OnOk result (copy ≡ b))
 
 -- what reading and copying a text by its name returns, and that the copy is the text
-pub record IsCopied {T : Type 0} (text : AskedText T) (copy : List ℕ) (result : Result Parsed Refusal) : Type 0 where
+pub record IsCopied (text : AskedText) (copy : List ℕ) (result : Result Parsed Refusal) : Type 0 where
   pub read : IsRead (IsRefusedCopy text) text result
   pub same : IsCopy text copy result
   pub copied : IfOk result (HoldsCopied [] copy)

@@ -6,6 +6,7 @@ use Rattle.std.specs.List.{AllByRecursion}
 use Rattle.std.specs.List.Sorted.{IsStrictlySortedBy}
 use Rattle.std.specs.Map.{keys_of, lookup}
 use Rattle.dn_arc.specs.State.Bundles.{BundleFacts, meant, listed_of}
+use Rattle.dn_arc.specs.Entries.{ArcSizes}
 use Rattle.dn_arc.specs.Kinds.{ArcKind}
 use Rattle.dn_arc.specs.State.CanonArcs.{AreCanonArcsOf, NeedsMore}
 use Rattle.dn_table.specs.GraphEntries.{graph_entries}
@@ -56,9 +57,9 @@ abbrev pub AreArcs : {Arc : Type 0} → ArcKind Arc → List ((ℤ × ℤ) × Ar
 AreArcs kind arcs = AllByRecursion (λ a. kind.IsArc a.1) arcs
 
 -- one more arc of a graph needs memory: the arcs make more entries with it, or it spreads the forced units of its pair
-abbrev pub GraphNeedsMore : {Arc : Type 0} → ArcKind Arc → List ((ℤ × ℤ) × Arc) → (ℤ × ℤ) × Arc → Type 0
-GraphNeedsMore kind arcs a =
-    (graph_entries kind arcs < graph_entries kind (arcs ++ a ∷ [])) ⊎ kind.Spreads (bundle a.0 arcs) a.1
+abbrev pub GraphNeedsMore : {Arc : Type 0} → ArcSizes Arc → List ((ℤ × ℤ) × Arc) → (ℤ × ℤ) × Arc → Type 0
+GraphNeedsMore sizes arcs a =
+    (graph_entries sizes arcs < graph_entries sizes (arcs ++ a ∷ [])) ⊎ sizes.Spreads (bundle a.0 arcs) a.1
 
 -- arcs that mean something also mean something with one more arc
 abbrev pub Stays : {Arc : Type 0} → ArcKind Arc → Type 0
@@ -69,7 +70,7 @@ Stays {Arc} kind =
 module _ {B Arc : Type 0} (bundle : BundleFacts B Arc) where
   -- how many entries the arcs of a bundle make
   abbrev pub entries_in : B → ℕ
-  entries_in b = bundle.kind.entries (meant bundle b)
+  entries_in b = bundle.sizes.entries (meant bundle b)
 
   -- the bundles represent these arcs
   abbrev pub Lists : List ((ℤ × ℤ) × B) → List ((ℤ × ℤ) × Arc) → Type 0
@@ -85,9 +86,9 @@ module _ {B Arc : Type 0} (bundle : BundleFacts B Arc) where
 
   -- one more arc at this pair needs memory
   abbrev pub WidensAt : List ((ℤ × ℤ) × B) → ℤ × ℤ → Arc → Type 0
-  WidensAt table pair arc = NeedsMore bundle.kind (listed_at (meant bundle) table pair) arc
+  WidensAt table pair arc = NeedsMore bundle.sizes (listed_at (meant bundle) table pair) arc
 
   -- n is how many entries the arcs of the table make, if that is below 2^64
   abbrev pub CountsEntries : List ((ℤ × ℤ) × B) → ℕ → Type 0
   CountsEntries table n = (arcs : List ((ℤ × ℤ) × Arc)) → Lists table arcs → AreArcs bundle.kind arcs
-      → graph_entries bundle.kind arcs < 2 ^ 64 → n ≡ graph_entries bundle.kind arcs
+      → graph_entries bundle.sizes arcs < 2 ^ 64 → n ≡ graph_entries bundle.sizes arcs

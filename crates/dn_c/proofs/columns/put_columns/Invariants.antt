@@ -1,7 +1,7 @@
 use Rattle.std.proofs.Common.{◌≤◌, List, take, drop, length}
 use Rattle.dn_c.specs.State.Columns.{HasColumns}
 use Rattle.dn_c.specs.State.Rows.{rows_by}
-use Rattle.dn_c.specs.State.Walks.{IsLeft}
+use Rattle.dn_c.specs.State.Walks.{CopiesListed, IsLeft}
 use Rattle.dn_c.proofs.columns.put_columns.Given as goal
 
 abbrev pub invariant-loop-at : goal.invariant-loop-at
@@ -11,4 +11,5 @@ invariant-loop-at g l =
       fills : (left : List _) → IsLeft lists (drop l.index l.table) l.fn.last left
           → HasColumns l.tails l.heads l.a l.b l.c (rows_by g.B.Arc.Parts.numbers (take l.at left))
           × (l.at ≤ length left) × IsLeft lists (drop l.spot l.table) l.taken (drop l.at left);
+      listed : CopiesListed g.B.Arc.Parts.numbers lists l.table (HasColumns l.tails l.heads l.a l.b l.c) l.at;
     }

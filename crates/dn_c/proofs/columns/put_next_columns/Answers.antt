@@ -15,4 +15,4 @@ returns-clause-copies g c =
     c.put_columns-put.new.b c.put_columns-put.new.c)
     put.result.0 put.result.1.0 c.last_before-last.result put.result.1.1 c.fine_count.result c.last_before-last.ensures
     c.place_after.ensures
-    c.fine_count.ensures put.ensures.fills
+    c.fine_count.ensures put.ensures.fills put.ensures.listed

@@ -13,4 +13,4 @@ returns-clause-copies g c =
     c.args.table.now c.args.place.now c.place_after.result (length c.args.out.now) (HasRows c.put_rows-put.new.out)
     put.result.0 put.result.1.0 c.last_before.result put.result.1.1 c.fine_count.result c.last_before.ensures
     c.place_after.ensures
-    c.fine_count.ensures put.ensures.fills
+    c.fine_count.ensures put.ensures.fills put.ensures.listed

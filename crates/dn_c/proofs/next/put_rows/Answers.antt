@@ -2,7 +2,7 @@ use Rattle.std.proofs.Common.{◌<◌, ◌∷◌, [], ◌++◌, length, set, tak
 use Rattle.std.proofs.lemmas.List.{length-map, length-set, map-append}
 use Rattle.dn_c.specs.State.Rows.{row_of, rows_by}
 use Rattle.dn_c.specs.State.Walks.{HasRows, IsLeft}
-use Rattle.dn_c.proofs.WalkLaws.{has_one_more, one_more, no_more}
+use Rattle.dn_c.proofs.WalkLaws.{has_one_more, more_copied, one_more, no_more}
 use Rattle.dn_c.proofs.next.put_rows.Goals as goal
 
 pub returns-in-None-clause-fills : goal.returns-in-None-clause-fills
@@ -10,7 +10,7 @@ returns-in-None-clause-fills g c left h =
     let numbers = g.B.Arc.Parts.numbers in
     let inv = c.loop-at.invariant.fills left h in
     let at = c.loop-at.at in
-    let none = no_more left at (c.in-None.ensures (drop at left) inv.2) in
+    let none = no_more left at (c.in-None.ensures.steps (drop at left) inv.2) in
     let all = take_all at left none ∙ sym (take_all (length c.args.out.now) left
     (omega (arith, none, c.loop-at-test.true))) in (
       subst (λ l. HasRows c.loop-at.out (rows_by numbers l)) all inv.0,
@@ -25,7 +25,7 @@ loop-at-preserved g c = record {
       let numbers = g.B.Arc.Parts.numbers in
       let inv = c.loop-at.invariant.fills left h in
       let at = c.loop-at.at in
-      let went = c.in-Some.ensures (drop at left) inv.2 in
+      let went = c.in-Some.ensures.steps (drop at left) inv.2 in
       let more = one_more left at c.in-Some.found.1 went.0 went.1 in
       let done = rows_by numbers (take at left) in
       let long = length-map (take at left) _ ∙ length-take-le at left inv.1 in
@@ -39,5 +39,12 @@ loop-at-preserved g c = record {
         subst (λ l. IsLeft lists (drop c.in-Some.found.0 c.args.table.now) (Some c.in-Some.found.1.1) l) (sym more.1)
             went.2,
       );
+  listed =
+      let at = c.loop-at.at in
+      let low : at < length c.loop-at.out = omega (arith, c.loop-at-test.true, c.loop-at.invariant.kept) in
+      more_copied g.B.Arc.Parts.numbers (g.B.Bundle.bundle.listed c.args.form) c.args.table.now (HasRows c.loop-at.out)
+      (HasRows (set c.loop-at.out at c.row.result)) at c.in-Some.found.1 c.row.result c.row.ensures
+      c.in-Some.ensures.listed
+      (λ done long has. has_one_more c.loop-at.out done at c.row.result long low has) c.loop-at.invariant.listed;
   kept = length-set c.loop-at.out c.loop-at.at c.row.result ∙ c.loop-at.invariant.kept;
 }

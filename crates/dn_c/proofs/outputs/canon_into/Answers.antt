@@ -2,6 +2,7 @@ use Rattle.std.proofs.Common.{◌≡◌, ℕ, false, Option, None, Some, Ok, inl
 use Rattle.std.specs.Option.{is_some}
 use Rattle.std.specs.Global.{Global, Vec}
 use Rattle.dn_instance.specs.State.Helds.{Parsed}
+use Rattle.dn_instance.specs.declared.refusal.Refusal.TheVariants as Refusals
 use Rattle.dn_c.specs.declared.status.Status.{Status}
 use Rattle.dn_c.specs.declared.work.Work.{Work}
 use Rattle.dn_c.specs.declared.work.Work.TheVariants as Works
@@ -19,7 +20,8 @@ module _ (held : Parsed) (alloc : Global) (form : ℕ) (old : Option Work) (s : 
           → PrintsInto (Works.Read held alloc) form o new s
       go (Some was) n f = cc
       go None n (inl f) = inl (text, f.1, f.0, has)
-      go None n (inr f) = inr (f.1, inr f.0)
+      go None n (inr f) =
+          inr (f.1, (Refusals.Memory, f.0, λ I valid h. let t = has I valid h in (t.0, t.1.canon, t.2)))
 
 pub returns-in-Ok : goal.returns-in-Ok
 returns-in-Ok c =

@@ -28,7 +28,7 @@ loop-preserved g c =
       | in-Some+in_ok-make_room w ↦
           let here = sym c.loop.invariant.next ∙ w.in-Some.is in
           record {
-            next = w.next-is ∙ w.canon_after-next.ensures c.loop.counter here;
+            next = w.next-is ∙ w.canon_after-next.ensures.after c.loop.counter here;
             has =
                 rw (w.sink-is, w.block-is)
                 (row_more (arc_row g.B.Bundle.bundle.kind) c.loop.block

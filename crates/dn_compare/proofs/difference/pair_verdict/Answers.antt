@@ -10,11 +10,11 @@ returns-in-Some g c xs ys l r =
     let src : FitsSigned w64 c.in-Some.src = search rules in
     let dst : FitsSigned w64 c.in-Some.dst = search rules in
     simp to_z-of_z
-    (of_arcs g.met.B.Bundle.laws (g.B.Bundle.bundle.listed One) _ _ xs ys
+    (of_arcs g.met.B.Bundle.laws g.met.B.Bundle.differs (g.B.Bundle.bundle.listed One) _ _ xs ys
     (Some ((c.in-Some.src, c.in-Some.dst), c.in-Some.how)) l r
     (rw (c.pairs.ensures.value, c.pairs-2.ensures.value) at c.in-Some.ensures))
 
 pub returns-in-None : goal.returns-in-None
 returns-in-None g c xs ys l r =
-    of_arcs g.met.B.Bundle.laws (g.B.Bundle.bundle.listed One) _ _ xs ys None l r
+    of_arcs g.met.B.Bundle.laws g.met.B.Bundle.differs (g.B.Bundle.bundle.listed One) _ _ xs ys None l r
     (rw (c.pairs.ensures.value, c.pairs-2.ensures.value) at c.in-None.ensures)

@@ -1,6 +1,6 @@
 use Rattle.std.specs.Io.KnownBytes.{Keeps}
 use Rattle.dn_host.specs.Streams.{Interrupts}
-use Rattle.dn_host.specs.Devices.{failing}
+use Rattle.dn_host.specs.State.Devices.{failing}
 use Rattle.dn_host.proofs.device.write_retrying.Given as goal
 
 -- the writes so far were interrupted, and took no byte

@@ -40,6 +40,6 @@ returns-in-Err-Memory-clause-answer g c arcs is old are both =
 
 pub returns-in-Err-Memory-clause-memory : goal.returns-in-Err-Memory-clause-memory
 returns-in-Err-Memory-clause-memory g c arcs old are e =
-    needs_graph g.B.Bundle.bundle.kind g.met.B.Bundle.laws (g.B.Bundle.bundle.listed One) c.args.table.now arcs
-    c.args.pair c.args.arc old are (c.if-not-is_arc.ensures.0 refl)
+    needs_graph g.B.Bundle.bundle.kind g.B.Bundle.bundle.sizes g.met.B.Bundle.laws g.met.B.Bundle.sized
+    (g.B.Bundle.bundle.listed One) c.args.table.now arcs c.args.pair c.args.arc old are (c.if-not-is_arc.ensures.0 refl)
     (c.in-Err-Memory.ensures.memory (ap Err c.in-Err-Memory.field-0-is))

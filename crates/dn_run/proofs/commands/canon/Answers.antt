@@ -1,6 +1,6 @@
 use Rattle.std.proofs.Common.{refl, inl}
-use Rattle.dn_run.proofs.CommandLaws.{canon_after, canon_refused, canon_unwritten, unwritten_answers}
-use Rattle.dn_run.proofs.OutcomeLaws.{added, does_refuse, on_read, on_refused, passed_on}
+use Rattle.dn_run.proofs.CommandLaws.{canon_after, canon_unread, canon_unwritten, unwritten_answers}
+use Rattle.dn_run.proofs.OutcomeLaws.{added, does_refuse, on_read, passed_on}
 use Rattle.dn_instance.proofs.ValidLaws.{reads_valid}
 use Rattle.dn_canon.specs.Prints.{print}
 use Rattle.dn_run.specs.Answers.{Done}
@@ -15,9 +15,8 @@ returns-in-Ok g c =
             let (J, canon, put) = c.in-Ok.ensures.canon I (reads_valid b I reads) is in
             (I, reads, print J, (refl, (J, record { canon = canon; text_is = refl })), added put.0));
       };
-      out_after = c.in-Ok.ensures.after;
+      out_after = (c.in-Ok.ensures.flushed, c.in-Ok.ensures.after);
       answers = refl;
-      flushed = c.in-Ok.ensures.flushed;
     })
 
 pub returns-in-Err : goal.returns-in-Err
@@ -35,7 +34,6 @@ returns-in-Err g c =
           (canon_after g.O.Sink.sink c.args.out.now _ c.args.name.now _ c.in-Err.ensures.after);
       answers =
           rw c.unwritten.ensures (unwritten_answers c.args.form c.args.name.now _ c.in-Err.ensures.refusal);
-      flushed = tt;
     })
 
 pub returns-in_err-held : goal.returns-in_err-held
@@ -43,5 +41,5 @@ returns-in_err-held g c =
     let (refusal, is, h) = c.in_err-held.ensures.read in
     does_refuse _ _ (passed_on _ _ c.from_residual.ensures.1) is (record {
       asks = c.in_err-held.ensures.asks;
-      means = on_refused h (λ b r. canon_refused _ c.args.form b refusal r);
+      means = canon_unread c.args.form h;
     }) (refl, inl h.refusal)

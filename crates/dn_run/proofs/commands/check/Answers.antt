@@ -14,7 +14,6 @@ returns g c = record {
   };
   out_after = c.put_check-put.ensures.out_after;
   answers = c.put_check-put.ensures.answers _ _;
-  flushed = c.put_check-put.ensures.flushed;
 }
 
 pub returns-in_err-held : goal.returns-in_err-held

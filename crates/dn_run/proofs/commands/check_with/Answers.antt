@@ -14,7 +14,6 @@ returns-in-Ok-fits g c = record {
       c.kind-with.ensures c.put_check-put.ensures.puts);
   out_after = c.put_check-put.ensures.out_after;
   answers = c.put_check-put.ensures.answers _ _;
-  flushed = c.put_check-put.ensures.flushed;
 }
 
 pub returns : goal.returns
@@ -50,5 +49,4 @@ returns-in-Ok g c = record {
       ))));
   out_after = refl;
   answers = refl;
-  flushed = tt;
 }

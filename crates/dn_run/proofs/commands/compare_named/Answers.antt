@@ -12,7 +12,6 @@ returns-in-Ok g c = record {
       c.put_compared-found.ensures.found c.put_compared-found.ensures.puts);
   out_after = c.put_compared-found.ensures.out_after;
   answers = found_answers _ _ _ c.put_compared-found.ensures.found;
-  flushed = c.put_compared-found.ensures.flushed;
 }
 
 pub returns-in-Err : goal.returns-in-Err

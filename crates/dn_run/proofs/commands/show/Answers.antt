@@ -12,9 +12,8 @@ returns-in-Ok g c = record {
         let (t, put, shows) = c.in-Ok.ensures.text in
         (I, reads, t, (refl, shows I (reads_valid b I reads) is), added put));
   };
-  out_after = c.in-Ok.ensures.text.1.fine;
+  out_after = (c.in-Ok.ensures.flushed, c.in-Ok.ensures.text.1.fine);
   answers = refl;
-  flushed = c.in-Ok.ensures.flushed;
 }
 
 pub returns-in-Err : goal.returns-in-Err
@@ -27,7 +26,6 @@ returns-in-Err g c = record {
   };
   out_after = c.in-Err.ensures.text.1.failed;
   answers = tt;
-  flushed = tt;
 }
 
 pub returns-in_err-held : goal.returns-in_err-held

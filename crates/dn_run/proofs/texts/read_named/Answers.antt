@@ -1,5 +1,5 @@
 use Rattle.std.proofs.Common.{refl, sym, ◌∙◌}
-use Rattle.dn_run.specs.FilesRuns.{read, unopened}
+use Rattle.dn_run.specs.FilesRuns.{files_run, read, sources_asked, unopened}
 use Rattle.dn_run.specs.Texts.{IsRefusedText}
 use Rattle.dn_run.specs.State.CommandRuns.{taken_text}
 use Rattle.dn_run.specs.State.TextReads.{IsRead}
@@ -9,10 +9,11 @@ use Rattle.dn_run.proofs.texts.read_named.Goals as goal
 
 pub returns-in-Ok-clause-read : goal.returns-in-Ok-clause-read
 returns-in-Ok-clause-read g c =
+    let files = files_run g.F.Files.files g.F.Text.Source.source (c.args.files.now, c.give_back.new.self) in
     let text = taken_text g.F.Files.files g.F.Text.Source.source (c.args.files.now, c.give_back.new.self)
     c.args.name.now in
     by_name (IsRead (IsRefusedText text) text) _ _ _ c.or_stop.ensures
-    (handed_reads _ _
+    (handed_reads _ _ _ (sources_asked files c.args.files.now c.give_back.new.self c.args.name.now) _
     (came c.in-Ok.text c.in-Ok.ensures.hands c.read_from-read.ensures.left.pulls
     (c.take.new.self, c.give_back.ensures))
     (c.give_back.ensures.faults c.args.name.now ∙ c.in-Ok.ensures.ok) _ c.read_from-read.result c.in-Ok.ensures.text

@@ -6,7 +6,7 @@ use Rattle.dn_table.proofs.entry_sum.count_entries.Given as goal
 -- the count so far and the entries of the remaining bundles sum to the total
 abbrev pub invariant-loop-bundle : goal.invariant-loop-bundle
 invariant-loop-bundle g l =
-    let kind = g.B.Bundle.bundle.kind in
+    let sizes = g.B.Bundle.bundle.sizes in
     let listed = g.B.Bundle.bundle.listed One in
-    l.all + entries_listed (λ b. kind.entries (listed b)) (drop l.bundle-index l.entries) ≡ entries_listed
-    (λ b. kind.entries (listed b)) l.entries
+    l.all + entries_listed (λ b. sizes.entries (listed b)) (drop l.bundle-index l.entries) ≡ entries_listed
+    (λ b. sizes.entries (listed b)) l.entries

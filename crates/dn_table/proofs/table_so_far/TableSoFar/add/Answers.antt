@@ -68,15 +68,15 @@ returns-in-Ok-reserve-clause-ok g c =
 
 pub returns-in_default-clause-memory : goal.returns-in_default-clause-memory
 returns-in_default-clause-memory g c e =
-    needs_fresh g.B.Bundle.bundle.kind (meant g.B.Bundle.bundle) c.args.self.now c.args.pair c.args.arc
+    needs_fresh g.B.Bundle.bundle.sizes (meant g.B.Bundle.bundle) c.args.self.now c.args.pair c.args.arc
     (none_as c.args.pair _ _ (c.deref.ensures.value ∙ c.self.view_is)
     (c.is_next.ensures.fresh c.if-not-is_next.false)) c.in_default.ensures.widens
 
 pub returns-in-Err-clause-memory : goal.returns-in-Err-clause-memory
 returns-in-Err-clause-memory g c e =
     let is = rw c.in-Some.is at c.in-Ok.ensures.ok in
-    needs_fresh g.B.Bundle.bundle.kind (meant g.B.Bundle.bundle) c.args.self.now c.args.pair c.args.arc
+    needs_fresh g.B.Bundle.bundle.sizes (meant g.B.Bundle.bundle) c.args.self.now c.args.pair c.args.arc
     (none_as c.args.pair _ _ (c.deref.ensures.value ∙ c.self.view_is)
     (c.is_next.ensures.fresh c.if-not-is_next.false))
-    (needs_first g.B.Bundle.bundle.kind g.met.B.Bundle.laws c.args.arc (meant g.B.Bundle.bundle c.in-Some.bundle)
-    c.requires is.0 is.1)
+    (needs_first g.B.Bundle.bundle.kind g.B.Bundle.bundle.sizes g.met.B.Bundle.laws g.met.B.Bundle.sized c.args.arc
+    (meant g.B.Bundle.bundle c.in-Some.bundle) c.requires is.0 is.1)

@@ -64,7 +64,7 @@ returns-in-Some-clause-memory g c e =
     let old = c.self.view_is ∙ c.position.ensures.same in
     let lt = rw (← old) at c.in-Some.ensures.position.0 in
     let at = rw (← old) at c.in-Some.ensures.position.1 in
-    needs_listed g.B.Bundle.bundle.kind (g.B.Bundle.bundle.listed One) c.args.arc es c.args.self.now c.args.pair
+    needs_listed g.B.Bundle.bundle.sizes (g.B.Bundle.bundle.listed One) c.args.arc es c.args.self.now c.args.pair
     (g.B.Bundle.bundle.listed One c.index_mut.result.now.1) old
     (listed_there (g.B.Bundle.bundle.listed One) es c.args.pair c.index_mut.result.now.1
     (found_at c.args.pair es c.self.invariant.apart c.in-Some.i c.index_mut.result.now lt at c.index_mut.ensures.value))

@@ -1,0 +1,9 @@
+use Rattle.std.proofs.Common.{codes, inl, refl}
+use Rattle.dn_command.specs.Commands.{Compare}
+use Rattle.dn_laws.proofs.runs.ExampleLaws.{took_line}
+use Rattle.dn_laws.proofs.runs.examples.standard_input.Goals as goal
+
+pub returns : goal.returns
+returns c behind out err status r =
+    let refused = (r.asked (Compare (codes "-") (codes "-")) refl).twice refl in
+    inl (refused.status_is, refused.out_stays, took_line err _ refused.tells)

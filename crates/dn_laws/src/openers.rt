@@ -1,0 +1,2 @@
+// Openers of texts.
+pub mod examples;

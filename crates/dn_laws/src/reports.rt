@@ -1,0 +1,2 @@
+// The lines that commands print.
+pub mod examples;

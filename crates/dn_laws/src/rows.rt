@@ -1,0 +1,2 @@
+// Rows of a text.
+pub mod examples;

@@ -1,0 +1,3 @@
+// Runs of the program.
+pub mod examples;
+pub mod laws;

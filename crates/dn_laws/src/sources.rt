@@ -1,0 +1,2 @@
+// Sources of texts.
+pub mod examples;
