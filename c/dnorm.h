@@ -51,7 +51,7 @@ extern "C" {
 #define DNORM_ABI 2
 
 /* The version of this file: 10000 times its first number, 100 times its second, and its third. */
-#define DNORM_VERSION 20000
+#define DNORM_VERSION 30000
 
 /* Owns nothing, a reader, an instance, a refusal, or a canonical text. Its members are the library's. */
 typedef struct dnorm {

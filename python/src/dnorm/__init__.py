@@ -38,7 +38,7 @@ from .refusals import REFUSALS
 from .summary import Differences, differences
 
 # The version of the program that this package belongs to, as Python packages spell it.
-__version__ = "2.0.0"
+__version__ = "3.0.0.dev0"
 
 __all__ = [
     "REFUSALS",
