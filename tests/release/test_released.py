@@ -298,7 +298,7 @@ def test_last_answer(clone: Clone) -> None:
 
 @pytest.mark.alone
 def test_cost(clone: Clone) -> None:
-    """./dnorm of a clone takes at most four times the processor time of the program itself; three without other load."""
+    """./dnorm of a clone takes at most four times the processor time of the program; three without other load."""
     need("git")
     Git(clone)
     runs("the first time", clone)
