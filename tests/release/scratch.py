@@ -51,8 +51,9 @@ FIRST = "6 cases pass, 0 fail (level canon)\n"
 OF_LIBRARY = ("include/", "lib/", "share/man/man3/", "share/dnorm/rust/")
 # Files that only the package has.
 ADDED = ["share/doc/dnorm/changelog.Debian.gz", "share/doc/dnorm/copyright", "share/lintian/overrides/dnorm"]
-# The files of the Python package, below python/src/, and what it is built with.
-MODULES = sorted(it.removeprefix("python/src/") for _, it, _ in listed() if it.startswith("python/src/"))
+# The files of the Python package, below python/src/, and what it is built with. The file beside it only runs it.
+SOURCES = "python/src/dnorm/"
+MODULES = sorted(it.removeprefix("python/src/") for _, it, _ in listed() if it.startswith(SOURCES))
 # The conformance suite, which the wheels have as a module.
 SUITE = {"dnorm/cases.json": "share/conformance/cases.json", "dnorm/conformance.py": "share/conformance/run.py"}
 WITH += ["python/pyproject.toml", "python/README.md"]

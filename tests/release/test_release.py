@@ -243,8 +243,7 @@ def test_runs_of_archive(made: Made, two: Place) -> None:
     assert run(words) == said(FIRST)
     parts(made, f"{made.tree}/scale/canon-in-parts")
     assert files_of(all_below(made.tree)) == archived()
-    modules = [place.removeprefix("python/src/") for _, place, _ in listed() if place.startswith("python/src/")]
-    assert modules == MODULES
+    assert [it for it in os.listdir(f"{made.tree}/python/src") if it.endswith(".py")] == ["__main__.py"]
     links(made, made.tree)
 
 
@@ -542,7 +541,8 @@ def test_packages_of_library(made: Made, port: Port) -> None:
         assert text_of(f"{made.folder}/control-{port.shared}/{it}").splitlines()[-1] == line, f"{it} of libdnorm2"
     found = {os.path.relpath(f"{at}/{it}", to) for at, _, files in os.walk(to, followlinks=True) for it in files}
     assert found == set(wanted), "the files of both packages"
-    page = text_of(f"{to}/usr/share/doc/libdnorm-dev/LIBRARY.md")
+    # Code has brackets, too.
+    page = re.sub(r"^```.*?^```", "", text_of(f"{to}/usr/share/doc/libdnorm-dev/LIBRARY.md"), flags=re.M | re.S)
     local = [it for it in re.findall(r"\]\(([^#)][^)]*)\)", page) if "://" not in it]
     assert sorted(local) == sorted(own_documents[1:]), "links of the page on the library"
     is_whole = page.startswith("# The library for C, C++ and Rust\n") and "## What a caller" in page
