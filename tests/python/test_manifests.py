@@ -147,7 +147,8 @@ def test_kept_manifests() -> None:
 # How old a file is, in seconds, before it has a mark.
 AGE = 2.1
 BEGIN = "manifest --incremental list set".split()
-OLD = b"# file 12 1600000000000000000 sp\n"
+# What earlier versions wrote before the line of a file, also of before 1970.
+OLD = [b"# file 12 1600000000000000000 sp\n", b"# file 12 -5000000000 sp\n"]
 
 
 def rewritten(name: str, text: bytes) -> None:
@@ -223,7 +224,7 @@ def test_edited_marks() -> None:
     write("list", text.replace("# form 1, 2 files\n", "# form 1\n"))
     assert module(*BEGIN).status == 4, "a mark below the head of an earlier version"
     plain = [it.partition("\t")[0] for it in text.splitlines()[1:]]
-    write("list", b"".join(OLD + it.encode() + b"\n" for it in plain))
+    write("list", b"".join(old + it.encode() + b"\n" for old, it in zip(OLD, plain)))
     found = module(*BEGIN)
     told = f"list: {UNKNOWN_FORM}\n2 listed, 0 refused, 0 failed\n"
     assert (found, text_of("list")) == (said("", told, 0), text), "marks of an earlier version"
