@@ -1,6 +1,6 @@
 # shellcheck shell=bash
 # Finds the program of a clone: the one that tools/build has built, or else the released one, if it was made from the
-# sources that are there. ./dnorm and tools/program include this file. It needs bash, GNU coreutils, findutils and sed.
+# sources that are there. tools/program includes this file. It needs bash, GNU coreutils, findutils and sed.
 #
 # Each call looks at the time of change of every file that decides, and of its folder. Nothing less finds a file that
 # was edited where it is, and nothing that a user can set is believed: `cp -p` and `touch` set other times, and git's

@@ -117,6 +117,11 @@ def test_module_beside() -> None:
     write("other.py", "import dnorm, sys, beside; print('dnorm')\n")
     found = run([sys.executable, "-m", "other", "dnorm"], env={**os.environ, **ENVIRONMENT})
     assert (found.out, found.status) == (b"dnorm\n", 0), found.err
+    for argv in [[], ["-m"], ["-m", *9 * ["dnorm"]]]:
+        found = run(
+            [sys.executable, "-c", f"import sys; sys.argv = {argv}; import dnorm"], env={**os.environ, **ENVIRONMENT}
+        )
+        assert (found.err, found.status) == (b"", 0), f"a program whose arguments are {argv}"
     os.makedirs("package")
     write("package/__init__.py", "import dnorm\n")
     write("package/__main__.py", "import beside; print('package')\n")

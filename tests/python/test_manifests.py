@@ -223,6 +223,8 @@ def test_edited_marks() -> None:
     assert module(*BEGIN).status == 4, "a mark of another form"
     write("list", text.replace("# form 1, 2 files\n", "# form 1\n"))
     assert module(*BEGIN).status == 4, "a mark below the head of an earlier version"
+    write("list", text.replace("# form 1, 2 files\n", ""))
+    assert module(*BEGIN).status == 4, "a mark without a head"
     plain = [it.partition("\t")[0] for it in text.splitlines()[1:]]
     write("list", b"".join(old + it.encode() + b"\n" for old, it in zip(OLD, plain)))
     found = module(*BEGIN)

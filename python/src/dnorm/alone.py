@@ -9,8 +9,8 @@ import sys
 def is_module_run() -> bool:
     """Whether Python is about to run this package by `-m`. While it imports the package, `-m` stands for the name of
     the script. Python 3.9 does not have the words of the command line."""
-    words = getattr(sys, "orig_argv", None)
-    if not words or sys.argv[0] != "-m":
+    words = getattr(sys, "orig_argv", [])
+    if sys.argv[:1] != ["-m"] or len(words) < len(sys.argv):
         return False
     module: str = words[-len(sys.argv)]
     return module == "dnorm" or module.startswith("-") and module.endswith("mdnorm")

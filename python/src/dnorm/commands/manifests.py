@@ -169,7 +169,9 @@ def manifest_of(text: str) -> Manifest:
         name = name_in(entry[1], entry[3]) if entry else None
         if not entry or not name:
             raise ValueError(f"no manifest has the line {line!r}")
-        if marked and (None in found.counts or sum_of(found.form, line[: -len(marked[4])]) != marked[4]):
+        # Earlier versions wrote no such line, and this one writes a head with a number before it.
+        is_ours = bool(found.counts) and None not in found.counts
+        if marked and not (is_ours and sum_of(found.form, line[: -len(marked[4])]) == marked[4]):
             raise ValueError(f"line {at} is not as it was written; without what follows its tab, the file is read")
         mark = Mark(*map(int, marked[3].split())) if marked else None
         found.add(at, Entry(name, entry[2], found.form, mark, marked[2] if marked else ""))
