@@ -12,7 +12,7 @@ use Rattle.dn_arc.specs.Entries.{SpreadsForced, cost_sizes}
 use Rattle.dn_arc.specs.Fillings.{forced_units}
 use Rattle.dn_arc.specs.Kinds.{costs}
 use Rattle.dn_arc.specs.State.Bundles.{AreDifferences, AreSizes, IsKind, IsDetermined}
-use Rattle.dn_arc.specs.Splits.{LeastCost, cost_cap}
+use Rattle.dn_arc.specs.Splits.{LeastCost}
 use Rattle.dn_arc.specs.Meanings.{SameCurve}
 use Rattle.dn_arc.specs.Canonical.{IsCostArc, AreCanonCosts}
 use Rattle.dn_arc.specs.Differences.{IsCostOf, IsGap, CurvesDiffer}
@@ -31,7 +31,7 @@ numbers_of : (ns : List ℤ) (a : CostArc) → costs.arc_of ns ≡ Some a → co
 numbers_of (l ∷ c ∷ k ∷ []) a e = ap all_numbers (sym e)
 numbers_of ns a e = cc
 
-cap-append : (xs ys : List CostArc) → cost_cap (xs ++ ys) ≡ cost_cap xs +ℤ cost_cap ys
+cap-append : (xs ys : List CostArc) → costs.capacity (xs ++ ys) ≡ costs.capacity xs +ℤ costs.capacity ys
 cap-append [] ys = omega (arith, ints)
 cap-append (a ∷ xs) ys = omega (arith, ints, cap-append xs ys)
 

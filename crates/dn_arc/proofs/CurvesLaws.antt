@@ -3,8 +3,8 @@ use Rattle.std.proofs.Common.{◌≡◌, ℤ, pos, ◌+ℤ◌, ◌*ℤ◌, ◌�
 use Rattle.std.proofs.lemmas.Int.{ints}
 use Rattle.std.specs.List.{AllByRecursion}
 use Rattle.std.specs.Int.Signed.{≤ℤ_refl}
+use Rattle.dn_arc.specs.Kinds.{costs}
 use Rattle.dn_arc.specs.declared.arc.CostArc.{CostArc}
-use Rattle.dn_arc.specs.Splits.{cost_cap}
 use Rattle.dn_arc.specs.Meanings.{SameCurve}
 use Rattle.dn_arc.specs.State.Equivalences.{IsMeaning}
 use Rattle.dn_arc.specs.Canonical.{IsCostArc}
@@ -47,14 +47,14 @@ curve_meaning = record {
 }
 
 -- no amount above the total capacity has a cost
-pub at_most_cap : (arcs : List CostArc) (x k : ℤ) → AtMost arcs x k → x ≤ℤ cost_cap arcs
+pub at_most_cap : (arcs : List CostArc) (x k : ℤ) → AtMost arcs x k → x ≤ℤ costs.capacity arcs
 at_most_cap [] x k s = omega (arith, ints)
 at_most_cap (a ∷ rest) x k s = omega (arith, ints, at_most_cap rest s.other s.spent s.rest)
 
 -- the total capacity has a cost
 record Brim (arcs : List CostArc) : Type 0 where
   cost : ℤ
-  is : AtMost arcs (cost_cap arcs) cost
+  is : AtMost arcs (costs.capacity arcs) cost
 
 brim : (arcs : List CostArc) → AllByRecursion IsCostArc arcs → Brim arcs
 brim [] h = record { cost = pos 0; is = record { amount = refl; within = ≤ℤ_refl _ } }
@@ -64,7 +64,7 @@ brim (a ∷ rest) h =
       cost = (a.cost *ℤ a.cap) +ℤ i.cost;
       is = record {
         share = a.cap;
-        other = cost_cap rest;
+        other = costs.capacity rest;
         spent = i.cost;
         low_is = h.0.room;
         cap_is = ≤ℤ_refl _;
@@ -74,13 +74,14 @@ brim (a ∷ rest) h =
       };
     }
 
-no_more : (xs ys : List CostArc) → AllByRecursion IsCostArc xs → SameCurve xs ys → cost_cap xs ≤ℤ cost_cap ys
+no_more : (xs ys : List CostArc) → AllByRecursion IsCostArc xs → SameCurve xs ys
+    → costs.capacity xs ≤ℤ costs.capacity ys
 no_more xs ys h s =
     let b = brim xs h in
-    at_most_cap ys (cost_cap xs) b.cost ((above xs ys s).there (cost_cap xs) b.cost b.is)
+    at_most_cap ys (costs.capacity xs) b.cost ((above xs ys s).there (costs.capacity xs) b.cost b.is)
 
 -- arcs of the same cost curve have the same total capacity
 pub cost_cap_same : (xs ys : List CostArc) → AllByRecursion IsCostArc xs → AllByRecursion IsCostArc ys → SameCurve xs ys
-    → cost_cap xs ≡ cost_cap ys
+    → costs.capacity xs ≡ costs.capacity ys
 cost_cap_same xs ys h g s =
     antisym _ _ (no_more xs ys h s) (no_more ys xs g (record { there = s.back; back = s.there }))

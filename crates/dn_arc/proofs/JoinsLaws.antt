@@ -3,8 +3,8 @@
 use Rattle.std.proofs.Common.{◌≡◌, ℤ, pos, ◌+ℤ◌, ◌*ℤ◌, ◌≤ℤ◌, ◌<ℤ◌, List, [], ◌∷◌, filter, refl, sym, ap, arith, ◌∙◌, inl, inr}
 use Rattle.std.proofs.lemmas.Int.{ints, by_lt_z}
 use Rattle.std.specs.List.{AllByRecursion}
+use Rattle.dn_arc.specs.Kinds.{costs}
 use Rattle.dn_arc.specs.declared.arc.CostArc.{CostArc}
-use Rattle.dn_arc.specs.Splits.{cost_cap}
 use Rattle.dn_arc.specs.Canonical.{IsFixedArc, IsMixedArc, AreNear, AreRising, has_low}
 use Rattle.dn_arc.specs.Entries.{has_room}
 use Rattle.dn_arc.specs.Fillings.{forced_units, forced_cost}
@@ -47,10 +47,10 @@ joined_cost a (b ∷ rest) =
     (λ gt. omega (arith, ints, joined_cost a rest))
     (λ eq. cost_of_both a.cost b.cost a.low b.low (forced_cost rest) eq)
 
-pub joined_cap : (a : CostArc) (arcs : List CostArc) → cost_cap (join_arc a arcs) ≡ a.cap +ℤ cost_cap arcs
+pub joined_cap : (a : CostArc) (arcs : List CostArc) → costs.capacity (join_arc a arcs) ≡ a.cap +ℤ costs.capacity arcs
 joined_cap a [] = refl
 joined_cap a (b ∷ rest) =
-    by_place (λ (l : List CostArc). cost_cap l ≡ a.cap +ℤ cost_cap (b ∷ rest)) a b rest
+    by_place (λ (l : List CostArc). costs.capacity l ≡ a.cap +ℤ costs.capacity (b ∷ rest)) a b rest
     (λ lt. refl)
     (λ gt. omega (arith, ints, joined_cap a rest))
     (λ eq. omega (arith, ints))
@@ -141,7 +141,7 @@ pub record AreJoined (fixed free arcs : List CostArc) : Type 0 where
   pub near : AreNear (filter has_low arcs)
   pub units : forced_units arcs ≡ forced_units fixed +ℤ forced_units free
   pub cost : forced_cost arcs ≡ forced_cost fixed +ℤ forced_cost free
-  pub cap : cost_cap arcs ≡ cost_cap fixed +ℤ cost_cap free
+  pub cap : costs.capacity arcs ≡ costs.capacity fixed +ℤ costs.capacity free
   pub parts : free_parts arcs ≡ free_parts free
 
 join_none : (free : List CostArc) → AllByRecursion IsMixedArc free → AreRising free → filter has_low free ≡ []

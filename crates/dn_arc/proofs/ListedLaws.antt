@@ -5,10 +5,10 @@ use Rattle.std.proofs.lemmas.Int.{ints, by_lt_z}
 use Rattle.std.proofs.Math.IntN.{*ℤ_comm}
 use Rattle.std.specs.List.{AllByRecursion}
 use Rattle.std.specs.Int.Signed.{≤ℤ_refl}
+use Rattle.dn_arc.specs.Kinds.{costs}
 use Rattle.dn_arc.specs.declared.arc.CostArc.{CostArc}
 use Rattle.dn_arc.specs.declared.arc.Form.{Form}
 use Rattle.dn_arc.specs.declared.arc.Form.TheVariants.{One, Two}
-use Rattle.dn_arc.specs.Splits.{cost_cap}
 use Rattle.dn_arc.specs.Meanings.{SameCurve}
 use Rattle.dn_arc.specs.Canonical.{IsCostArc, IsFixedArc, IsMixedArc, has_low, IsFormOne, IsFormTwo, AreCanonCosts}
 use Rattle.dn_arc.specs.Fillings.{forced_units, forced_cost}
@@ -114,7 +114,7 @@ steps_cost [] = refl
 steps_cost (step ∷ rest) = let i = steps_cost rest in let z : step.0 *ℤ pos 0 ≡ pos 0 = omega (arith, ints) in
     omega (arith, ints)
 
-steps_cap : (steps : List (ℤ × ℤ)) → cost_cap (map step_arc steps) ≡ steps_room steps
+steps_cap : (steps : List (ℤ × ℤ)) → costs.capacity (map step_arc steps) ≡ steps_room steps
 steps_cap [] = refl
 steps_cap (step ∷ rest) = ap (λ z. step.1 +ℤ z) (steps_cap rest)
 
@@ -122,8 +122,8 @@ steps_cap (step ∷ rest) = ap (λ z. step.1 +ℤ z) (steps_cap rest)
 record AreSums (fixed free : List CostArc) : Type 0 where
   units : forced_units (fixed ++ free) ≡ forced_units fixed +ℤ forced_units free
   cost : forced_cost (fixed ++ free) ≡ forced_cost fixed +ℤ forced_cost free
-  cap : cost_cap (fixed ++ free) ≡ forced_units fixed +ℤ cost_cap free
-  full : cost_cap fixed ≡ forced_units fixed
+  cap : costs.capacity (fixed ++ free) ≡ forced_units fixed +ℤ costs.capacity free
+  full : costs.capacity fixed ≡ forced_units fixed
   parts : free_parts (fixed ++ free) ≡ free_parts free
 
 sums : (fixed free : List CostArc) → AllByRecursion IsFixedArc fixed → AreSums fixed free
@@ -163,7 +163,7 @@ module _ (units cost : ℤ) (steps : List (ℤ × ℤ)) (some : pos 0 ≤ℤ uni
   pub listed_cost : forced_cost (listed One units cost steps) ≡ cost
   listed_cost = omega (arith, ints, steps_cost steps, fixed.cost_is, all.cost)
 
-  pub listed_cap : (form : Form) → cost_cap (listed form units cost steps) ≡ units +ℤ steps_room steps
+  pub listed_cap : (form : Form) → costs.capacity (listed form units cost steps) ≡ units +ℤ steps_room steps
   listed_cap One = omega (arith, ints, steps_cap steps, fixed.units_is, all.cap)
   listed_cap Two = let e = join.cap in let f = fixed.units_is in let g = steps_cap steps in let h = all.full in
       omega (arith, ints)

@@ -11,7 +11,6 @@ use Rattle.dn_arc.specs.declared.arc.Form.{Form}
 use Rattle.dn_arc.specs.declared.arc.Form.TheVariants.{One, Two}
 use Rattle.dn_arc.specs.Kinds.{costs}
 use Rattle.dn_arc.specs.State.Bundles.{NumbersFit}
-use Rattle.dn_arc.specs.Splits.{cost_cap}
 use Rattle.dn_arc.specs.Meanings.{SameCurve}
 use Rattle.dn_arc.specs.Canonical.{IsCostArc, AreCanonCosts}
 use Rattle.dn_arc.specs.State.Means.{IsMean}
@@ -65,12 +64,13 @@ join_fit [] ys f g = g
 join_fit (x ∷ xs) ys f g = joined_costs (FitsSigned w64) x (join_arcs xs ys) f.0 (join_fit xs ys f.1 g)
 
 -- the total capacity of a problem's arcs is at least 0
-pub caps_some : (arcs : List CostArc) → AllByRecursion IsCostArc arcs → pos 0 ≤ℤ cost_cap arcs
+pub caps_some : (arcs : List CostArc) → AllByRecursion IsCostArc arcs → pos 0 ≤ℤ costs.capacity arcs
 caps_some [] h = omega (arith, ints)
 caps_some (a ∷ rest) h = omega (arith, ints, caps_some rest h.1)
 
 -- the numbers of arcs fit 64 bits if their total capacity and their costs do
-numbers_fit : (arcs : List CostArc) → AllByRecursion IsCostArc arcs → cost_cap arcs ≤ℤ pos (2 ^ 63 - 1) → CostsFit arcs
+numbers_fit : (arcs : List CostArc) → AllByRecursion IsCostArc arcs → costs.capacity arcs ≤ℤ pos (2 ^ 63 - 1)
+    → CostsFit arcs
     → NumbersFit costs arcs
 numbers_fit [] h m f = tt
 numbers_fit (a ∷ rest) h m f =
@@ -93,7 +93,7 @@ module _ (units cost total : ℤ) (steps : List (ℤ × ℤ)) (s : IsSound units
   pub sound_same : SameCurve (listed Two units cost steps) (listed One units cost steps)
   sound_same = listed_same units cost steps s.some none_is s.rising
 
-  pub sound_cap : (form : Form) → cost_cap (listed form units cost steps) ≡ total
+  pub sound_cap : (form : Form) → costs.capacity (listed form units cost steps) ≡ total
   sound_cap form = listed_cap units cost steps s.some none_is s.rising form ∙ sym s.whole
 
   pub sound_arcs : (form : Form) → AllByRecursion IsCostArc (listed form units cost steps)

@@ -50,10 +50,14 @@ AreNear (a ∷ []) = Unit {0}
 AreNear (a ∷ b ∷ []) = b.cost ≡ a.cost +ℤ pos 1
 AreNear (a ∷ b ∷ c ∷ rest) = ⊥
 
+-- each element stands in this relation to all elements after it
+abbrev pub ArePairwise : {X : Type 0} → (X → X → Type 0) → List X → Type 0
+ArePairwise R [] = Unit {0}
+ArePairwise R (x ∷ rest) = AllByRecursion (R x) rest × ArePairwise R rest
+
 -- the arcs are sorted by strictly ascending COST
 abbrev pub AreRising : List CostArc → Type 0
-AreRising [] = Unit {0}
-AreRising (a ∷ rest) = AllByRecursion (λ (b : CostArc). a.cost <ℤ b.cost) rest × AreRising rest
+AreRising arcs = ArePairwise (λ a b. a.cost <ℤ b.cost) arcs
 
 -- `min`, form 1: at most two fixed arcs, of costs c and c + 1, and then free arcs by strictly ascending COST
 pub record IsFormOne (arcs : List CostArc) : Type 0 where

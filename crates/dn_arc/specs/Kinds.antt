@@ -1,8 +1,8 @@
 -- What the three kinds of graphs have in common: an arc is a list of numbers, and parallel arcs have a meaning together
 -- (this project's profile).
-use Rattle.std.specs.Prelude.{ℤ, pos, List, [], ◌∷◌, Option, Some, None}
+use Rattle.std.specs.Prelude.{ℤ, pos, List, [], ◌∷◌, map, Option, Some, None}
 use Rattle.dn_arc.specs.Capacities.{total_cap}
-use Rattle.dn_arc.specs.Splits.{cost_cap}
+use Rattle.dn_arc.specs.Splits.{total}
 use Rattle.dn_arc.specs.Meanings.{SameLength, SameTotal, SameCurve}
 use Rattle.dn_arc.specs.Canonical.{IsCapArc, IsCostArc, AreCanonLengths, AreCanonCaps, AreCanonCosts}
 use Rattle.dn_arc.specs.declared.arc.LengthArc.{LengthArc}
@@ -68,7 +68,7 @@ costs = record {
   numbers = λ a. a.low ∷ a.cap ∷ a.cost ∷ [];
   arc_of = cost_arc;
   IsArc = IsCostArc;
-  capacity = cost_cap;
+  capacity = λ arcs. total (map (λ a. a.cap) arcs);
   Same = SameCurve;
   IsCanon = AreCanonCosts;
 }

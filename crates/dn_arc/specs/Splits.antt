@@ -32,8 +32,3 @@ pub record LeastCost (arcs : List CostArc) (x k : ℤ) : Type 0 where
   pub is : IsSplit arcs x split
   pub costs : cost_of arcs split ≡ k
   pub least : (xs : List ℤ) → IsSplit arcs x xs → k ≤ℤ cost_of arcs xs
-
--- the total capacity is the sum of the CAPs
-abbrev pub cost_cap : List CostArc → ℤ
-cost_cap [] = pos 0
-cost_cap (a ∷ rest) = a.cap +ℤ cost_cap rest

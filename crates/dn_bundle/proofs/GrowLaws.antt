@@ -4,11 +4,11 @@ use Rattle.std.proofs.Common.{◌≡◌, ◌-◌, ◌^◌, ℤ, pos, negsuc, ◌
 use Rattle.std.specs.Int.{w128}
 use Rattle.std.specs.List.{AllByRecursion}
 use Rattle.std.proofs.lemmas.Int.{ints, to_z-of_z, by_lt_z}
+use Rattle.dn_arc.specs.Kinds.{costs}
 use Rattle.dn_arc.specs.declared.arc.CostArc.{CostArc}
 use Rattle.dn_arc.specs.declared.arc.Form.TheVariants.{One}
 use Rattle.dn_bundle.specs.declared.curve.shape.Numbers.{Numbers}
 use Rattle.dn_bundle.specs.declared.curve.shape.Shape.{Shape}
-use Rattle.dn_arc.specs.Splits.{cost_cap}
 use Rattle.dn_arc.specs.Meanings.{SameCurve}
 use Rattle.dn_arc.specs.Canonical.{IsCostArc}
 use Rattle.dn_arc.specs.State.Steps.{put_step, add_step, AreSteps, steps_room}
@@ -143,7 +143,7 @@ module _ (old new : Numbers) (a : CostArc) (total : ℤ) (s : AreSound old) (h :
 
 -- the total capacity with one more arc
 pushed : (units cost total : ℤ) (steps : List (ℤ × ℤ)) (a : CostArc) → IsSound units cost total steps
-    → cost_cap (listed One units cost steps ++ a ∷ []) ≡ total +ℤ a.cap
+    → costs.capacity (listed One units cost steps ++ a ∷ []) ≡ total +ℤ a.cap
 pushed units cost total steps a s =
     let e = cost_kind.capacity_append (listed One units cost steps) (a ∷ []) in
     omega (arith, ints, sound_cap units cost total steps s One)
@@ -155,7 +155,7 @@ two_are a b f g = simp to_z-of_z
 pub too_much : (units cost total : ℤ) (steps : List (ℤ × ℤ)) (a : CostArc) → IsSound units cost total steps
     → IsCostArc a → FitsSigned w64 total → FitsSigned w64 a.cap
     → (FitsSigned w64 (to_z w64 (of_z w64 total) +ℤ to_z w64 (of_z w64 a.cap)) → ⊥)
-    → pos (2 ^ 63 - 1) <ℤ cost_cap (listed One units cost steps ++ a ∷ [])
+    → pos (2 ^ 63 - 1) <ℤ costs.capacity (listed One units cost steps ++ a ∷ [])
 too_much units cost total steps a s h f g n =
     let left = steps_some steps s.rising in
     rw (pushed units cost total steps a s)
@@ -166,7 +166,7 @@ too_much units cost total steps a s h f g n =
 pub not_too_much : (units cost total : ℤ) (steps : List (ℤ × ℤ)) (a : CostArc) → IsSound units cost total steps
     → FitsSigned w64 total → FitsSigned w64 a.cap
     → FitsSigned w64 (to_z w64 (of_z w64 total) +ℤ to_z w64 (of_z w64 a.cap))
-    → pos (2 ^ 63 - 1) <ℤ cost_cap (listed One units cost steps ++ a ∷ []) → ⊥
+    → pos (2 ^ 63 - 1) <ℤ costs.capacity (listed One units cost steps ++ a ∷ []) → ⊥
 not_too_much units cost total steps a s f g fits n =
     let e = pushed units cost total steps a s in
     let m = most (total +ℤ a.cap) (simp to_z-of_z at fits) in

@@ -11,3 +11,4 @@ pub mod LenLaws
 pub mod GapLaws
 pub mod PartLaws
 pub mod SpotLaws
+pub mod TwoLaws

@@ -16,8 +16,7 @@ use Rattle.dn_arc.proofs.ListedLaws.{listed_units, listed_cost}
 use Rattle.dn_arc.proofs.ProductsLaws.{mul_suc, mul_mono}
 use Rattle.dn_arc.proofs.SoundLaws.{none_is, sound_arcs}
 use Rattle.dn_bundle.specs.declared.curve.shape.OneCost.{OneCost}
-use Rattle.dn_bundle.specs.declared.curve.shape.Shape.TheVariants.{Plain}
-use Rattle.dn_bundle.specs.State.Shapes.{one_step, shape_numbers, LeavesPlain, NeedsRoom, forced, free, more, NeedRoom}
+use Rattle.dn_bundle.specs.State.Shapes.{one_step, plain, shape_numbers, LeavesPlain, NeedsRoom, forced, free, more, NeedRoom}
 use Rattle.dn_bundle.proofs.GrowLaws.{grown_sound, grown_same}
 use Rattle.dn_kind.proofs.BundleLaws.{all_end}
 use Rattle.dn_bundle.proofs.CurveLaws.{entries_listed}
@@ -106,14 +105,15 @@ same_each u x y some e =
     (λ ge. omega (arith, ints)))
 
 -- the free capacity of a plain shape has one cost
-plain_lacks : (one : OneCost) (cost : ℤ) → (cost ≡ one.cost → ⊥) → has_step (steps_of (one_step one) []) cost ≡ false
+plain_lacks : (one : OneCost) (cost : ℤ) → (cost ≡ one.cost → ⊥)
+    → has_step (steps_of (one_step one.cost one.free) []) cost ≡ false
 plain_lacks one cost n =
     by_lt_z (pos 0) one.free (λ lt. rw (test_yes (pos 0) one.free lt, eq_no cost one.cost n))
     (λ le. rw (test_no (pos 0) one.free le))
 
 -- a plain shape that cannot take an arc needs memory for it
 pub leaves_room : (one : OneCost) (a : CostArc) → IsCostArc a → (a.cap ≡ pos 0 → ⊥)
-    → LeavesPlain one a → NeedRoom (shape_numbers (Plain one)) a
+    → LeavesPlain one a → NeedRoom (shape_numbers (plain one)) a
 leaves_room one a h some (inl many) =
     by_lt_z (pos 0) (pos one.low) (λ lt. more lt many.0 (inr many.1)) (λ le. forced (omega (arith, ints)) many.0)
 leaves_room one a h some (inr other) =

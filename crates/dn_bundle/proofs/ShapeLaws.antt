@@ -11,23 +11,23 @@ use Rattle.std.proofs.lemmas.Int.{ints, to_z-of_z, by_lt_z}
 use Rattle.dn_arc.specs.declared.arc.CostArc.{CostArc}
 use Rattle.dn_bundle.specs.declared.curve.shape.Shape.{Shape}
 use Rattle.dn_bundle.specs.declared.curve.shape.OneCost.{OneCost}
-use Rattle.dn_bundle.specs.declared.curve.shape.Shape.TheVariants.{Plain}
 use Rattle.dn_arc.specs.Canonical.{IsCostArc}
 use Rattle.dn_arc.specs.State.Steps.{steps_of, put_step, add_step}
-use Rattle.dn_bundle.specs.State.Shapes.{one_step, shape_numbers, AreSound, IsGrown, StaysPlain}
+use Rattle.dn_bundle.specs.State.Shapes.{one_step, plain, shape_numbers, AreSound, IsGrown, StaysPlain}
 use Rattle.dn_arc.proofs.PartsLaws.{test_yes, test_no}
 use Rattle.dn_arc.proofs.StepArcsLaws.{steps_some}
 use Rattle.dn_arc.proofs.MeansLaws.{fits_some}
 use Rattle.dn_bundle.proofs.StepLaws.{put_at}
 
 -- capacity above 0 at a cost is a breakpoint
-some_step : (one : OneCost) → pos 0 <ℤ one.free → steps_of (one_step one) [] ≡ (one.cost, one.free) ∷ []
+pub some_step : (one : OneCost) → pos 0 <ℤ one.free
+    → steps_of (one_step one.cost one.free) [] ≡ (one.cost, one.free) ∷ []
 some_step one h = rw test_yes
 
-no_step : (one : OneCost) → one.free ≡ pos 0 → steps_of (one_step one) [] ≡ []
+no_step : (one : OneCost) → one.free ≡ pos 0 → steps_of (one_step one.cost one.free) [] ≡ []
 no_step one e = rw (test_no (pos 0) one.free (omega (arith, ints)))
 
-module _ (one : OneCost) (low' : ℕ) (a : CostArc) (total : ℤ) (s : AreSound (shape_numbers (Plain one)))
+module _ (one : OneCost) (low' : ℕ) (a : CostArc) (total : ℤ) (s : AreSound (shape_numbers (plain one)))
     (h : IsCostArc a) (e : total ≡ (pos one.low +ℤ one.free) +ℤ a.cap) (is : StaysPlain one a)
     (l : pos low' ≡ pos one.low +ℤ a.low) where
   -- the numbers with this free capacity after the arc was added
@@ -35,11 +35,12 @@ module _ (one : OneCost) (low' : ℕ) (a : CostArc) (total : ℤ) (s : AreSound 
   grown free = record { low = low'; cost = a.cost; free = free }
 
   some_free : pos 0 ≤ℤ one.free
-  some_free = omega (arith, ints, steps_some (steps_of (one_step one) []) s.rising)
+  some_free = omega (arith, ints, steps_some (steps_of (one_step one.cost one.free) []) s.rising)
 
   -- the free capacity of the arc is added to the breakpoints
   some_put : (room : ℤ) → pos 0 <ℤ room
-      → steps_of (one_step (grown (one.free +ℤ room))) [] ≡ put_step (steps_of (one_step one) []) (a.cost, room)
+      → steps_of (one_step a.cost (one.free +ℤ room)) []
+      ≡ put_step (steps_of (one_step one.cost one.free) []) (a.cost, room)
   some_put room r =
       let f = some_free in
       by_lt_z (pos 0) one.free (λ lt. by is.same lt)
@@ -49,25 +50,26 @@ module _ (one : OneCost) (low' : ℕ) (a : CostArc) (total : ℤ) (s : AreSound 
       rw (some_step (grown (one.free +ℤ room)) (omega (arith, ints)), no_step one none, same))
     where
       by : (a.cost ≡ one.cost) ⊎ ((one.low ≡ 0) × (one.free ≡ pos 0)) → pos 0 <ℤ one.free
-          → steps_of (one_step (grown (one.free +ℤ room))) [] ≡ put_step (steps_of (one_step one) []) (a.cost, room)
+          → steps_of (one_step a.cost (one.free +ℤ room)) []
+          ≡ put_step (steps_of (one_step one.cost one.free) []) (a.cost, room)
       by (inl at) lt =
           let more = some_step (grown (one.free +ℤ room)) (omega (arith, ints)) in
           rw (more, some_step one lt, put_at (one.cost, one.free) (a.cost, room) [] at, at)
       by (inr none) lt = absurd (omega (arith, ints))
 
-  none_put : steps_of (one_step (grown one.free)) [] ≡ steps_of (one_step one) []
+  none_put : steps_of (one_step a.cost one.free) [] ≡ steps_of (one_step one.cost one.free) []
   none_put =
       let f = some_free in
       by_lt_z (pos 0) one.free (λ lt. by is.same lt)
       (λ le. rw (no_step (grown one.free) (omega (arith, ints)), no_step one (omega (arith, ints))))
     where
       by : (a.cost ≡ one.cost) ⊎ ((one.low ≡ 0) × (one.free ≡ pos 0)) → pos 0 <ℤ one.free
-          → steps_of (one_step (grown one.free)) [] ≡ steps_of (one_step one) []
+          → steps_of (one_step a.cost one.free) [] ≡ steps_of (one_step one.cost one.free) []
       by (inl at) lt = rw (some_step (grown one.free) lt, some_step one lt, at)
       by (inr none) lt = absurd (omega (arith, ints))
 
-  steps_grown : steps_of (one_step (grown (one.free +ℤ (a.cap -ℤ a.low)))) []
-      ≡ add_step (steps_of (one_step one) []) (a.cost, a.cap -ℤ a.low)
+  steps_grown : steps_of (one_step a.cost (one.free +ℤ (a.cap -ℤ a.low))) []
+      ≡ add_step (steps_of (one_step one.cost one.free) []) (a.cost, a.cap -ℤ a.low)
   steps_grown =
       by_lt_z (pos 0) (a.cap -ℤ a.low)
       (λ lt. rw (test_yes (pos 0) (a.cap -ℤ a.low) lt) (some_put (a.cap -ℤ a.low) lt))
@@ -86,7 +88,7 @@ module _ (one : OneCost) (low' : ℕ) (a : CostArc) (total : ℤ) (s : AreSound 
       same (inl at) = ap (λ z. pos one.low *ℤ z) at
       same (inr none) = rw none.0 (zero-*ℤ a.cost ∙ sym (zero-*ℤ one.cost))
 
-  pub plain_grown : IsGrown (shape_numbers (Plain one)) a (shape_numbers (Plain (grown (one.free +ℤ (a.cap -ℤ a.low)))))
+  pub plain_grown : IsGrown (shape_numbers (plain one)) a (shape_numbers (plain (grown (one.free +ℤ (a.cap -ℤ a.low)))))
   plain_grown = record { units = l; cost = cost_grown; total = omega (arith, ints); steps = steps_grown }
 
   pub room_fits_plain : FitsSigned w64 total → FitsSigned w64 (one.free +ℤ (a.cap -ℤ a.low))
@@ -123,7 +125,7 @@ same_grown n old new a eu ec et el g = record {
 }
 
 -- the numbers that the code makes of a plain shape
-module _ (one : OneCost) (units cost : ℤ) (s : AreSound (shape_numbers (Plain one))) (eu : units ≡ pos one.low)
+module _ (one : OneCost) (units cost : ℤ) (s : AreSound (shape_numbers (plain one))) (eu : units ≡ pos one.low)
     (ec : cost ≡ to_z w64 (of_z w64 units) *ℤ one.cost) (fu : FitsSigned w64 units) (fc : FitsSigned w128 cost)
     (fs : FitsSigned w64 one.free) where
   pub made_units : to_z w64 (of_z w64 units) ≡ pos one.low
@@ -134,7 +136,7 @@ module _ (one : OneCost) (units cost : ℤ) (s : AreSound (shape_numbers (Plain 
 
   total_fits : FitsSigned w64 (pos one.low +ℤ one.free)
   total_fits =
-      let left = steps_some (steps_of (one_step one) []) s.rising in
+      let left = steps_some (steps_of (one_step one.cost one.free) []) s.rising in
       fits_some (pos one.low +ℤ one.free) (omega (arith, ints)) s.most
 
   pub made_total : to_z w64 (of_z w64 (to_z w64 (of_z w64 units) +ℤ to_z w64 (of_z w64 one.free)))
@@ -147,11 +149,11 @@ abs_is (pos n) h = refl
 abs_is (negsuc n) h = absurd (omega (arith, ints))
 
 -- a plain shape to which the code adds an arc
-module _ (shape : Shape) (one : OneCost) (a : CostArc) (total : ℤ) (is : shape ≡ Plain one)
+module _ (shape : Shape) (one : OneCost) (a : CostArc) (total : ℤ) (is : shape ≡ plain one)
     (s : AreSound (shape_numbers shape)) (h : IsCostArc a) (e : total ≡ (shape_numbers shape).total +ℤ a.cap)
     (w : StaysPlain one a) (f : FitsSigned w64 total) (fk : FitsSigned w64 a.cost) (fl : FitsSigned w64 a.low)
     (fc : FitsSigned w64 a.cap) (fs : FitsSigned w64 one.free) where
-  sound_plain : AreSound (shape_numbers (Plain one))
+  sound_plain : AreSound (shape_numbers (plain one))
   sound_plain = rw is at s
 
   total_plain : total ≡ (pos one.low +ℤ one.free) +ℤ a.cap
@@ -192,7 +194,7 @@ module _ (shape : Shape) (one : OneCost) (a : CostArc) (total : ℤ) (is : shape
       (record { low = made.low; cost = a.cost; free = one.free +ℤ (a.cap -ℤ a.low) }) made
   made_is = rw (sum_same, to_z-of_z w64 a.cost fk, to_z-of_z w64 (one.free +ℤ (a.cap -ℤ a.low)) sum_fits)
 
-  pub plain_taken : IsGrown (shape_numbers shape) a (shape_numbers (Plain made))
+  pub plain_taken : IsGrown (shape_numbers shape) a (shape_numbers (plain made))
   plain_taken =
-      rw is (subst (λ o. IsGrown (shape_numbers (Plain one)) a (shape_numbers (Plain o))) made_is
+      rw is (subst (λ o. IsGrown (shape_numbers (plain one)) a (shape_numbers (plain o))) made_is
       (plain_grown one _ a total sound_plain h total_plain w low_is))

@@ -19,7 +19,7 @@ ghost use Rattle.dn_arc.specs.declared.difference.How.TheVariants.{Costs};
 ghost use Rattle.dn_bundle.specs.State.Listings.{curve_arcs, form_one_arcs};
 
 use crate::cost128::{floor, more_cost};
-use crate::curve::shape::{OneCost, Shape};
+use crate::curve::shape::Shape;
 use crate::difference::first_gap;
 use dn_arc::{CostArc, Fixed, Form, Gap, How};
 use dn_kind::{Bundle, BundleFault};
@@ -169,6 +169,7 @@ impl Curve {
     }
 
     // Returns the fixed arcs.
+    #[inline(always)]
     fn spread(&self) -> Fixed
         ensures value { fixed_list result ≡ fixed_arcs self.now.units self.now.cost }
         ensures next { HasNext result }
@@ -243,11 +244,11 @@ impl Bundle for Curve {
     fn of(alloc: Global, arc: CostArc) -> Result<Option<Curve>, AllocError> {
         let mut curve = Curve {
             alloc,
-            shape: Shape::Plain(OneCost {
+            shape: Shape::Plain {
                 low: 0,
                 cost: 0,
                 free: 0,
-            }),
+            },
         };
         curve.grow(arc, arc.cap)?;
         if curve.total() == 0 {
@@ -278,6 +279,10 @@ impl Bundle for Curve {
             (None, Some(right)) => by_costs(right.gap_from_none()),
             (Some(left), Some(right)) => by_costs(left.gap(right)),
         }
+    }
+
+    fn touch(&self) -> i64 {
+        self.shape.touch()
     }
 
     fn entries(&self) -> u64 {

@@ -88,6 +88,10 @@ impl Bundle for Least {
         Some(How::Lengths { left, right })
     }
 
+    fn touch(&self) -> i64 {
+        0
+    }
+
     fn entries(&self) -> u64 {
         1
     }

@@ -1,5 +1,5 @@
 // The breakpoints of a cost curve: its free capacity by ascending cost.
-ghost use Rattle.std.specs.Prelude.{◌≡◌, ◌-◌, ◌^◌, ℤ, pos, ◌+ℤ◌, ◌≤ℤ◌, ◌<ℤ◌, ◌+◌, List, length, slice_get, false, OnOk, OnErr, ◌<◌, ◌≤◌};
+ghost use Rattle.std.specs.Prelude.{◌≡◌, ◌-◌, ◌^◌, ℤ, pos, ◌+ℤ◌, ◌≤ℤ◌, ◌<ℤ◌, ◌+◌, List, [], ◌∷◌, length, slice_get, false, OnOk, OnErr, ◌<◌, ◌≤◌};
 ghost use Rattle.std.specs.List.{insert};
 ghost use Rattle.std.specs.Iterator.{YieldsFirst, item_count};
 ghost use Rattle.std.specs.Option.{option_to_list};
@@ -133,6 +133,19 @@ impl Steps {
         }
     }
 
+    /// Makes a list of two breakpoints.
+    pub(crate) fn of_two(alloc: Global, first: (i64, i64), second: (i64, i64)) -> Steps
+        ensures { result ≡ first ∷ second ∷ [] }
+    {
+        let mut few = ArrayVec::new();
+        few.push(first);
+        few.push(second);
+        Steps {
+            few,
+            rest: BTreeMap::new(alloc),
+        }
+    }
+
     /// Returns how many costs have free capacity.
     pub(crate) fn len(&self) -> u64
         ensures len { result ≡ length self.now }
@@ -140,6 +153,17 @@ impl Steps {
     {
         // A map has fewer than 2^63 entries, so the sum does not saturate.
         (self.rest.len() as u64).saturating_add(self.few.len() as u64)
+    }
+
+    /// Reads a number of the first breakpoint, and one behind the last of the few. This has no contract, because it
+    /// affects only the speed.
+    #[inline(always)]
+    pub(crate) fn touch(&self) -> i64 {
+        let len = self.few.len() as i64;
+        match self.few.first() {
+            Some(step) => step.1 ^ len,
+            None => len,
+        }
     }
 
     /// Returns the least cost, and the capacity at it.
@@ -250,6 +274,7 @@ impl Steps {
     {
         StepsIter {
             first: None,
+            second: None,
             few: &self.few,
             rest: Some(self.rest.iter()),
         }
@@ -260,6 +285,7 @@ impl Steps {
 #[derive(Drop)]
 pub(crate) struct StepsIter<'a> {
     first: Option<(i64, i64)>,
+    second: Option<(i64, i64)>,
     few: &'a [(i64, i64)],
     rest: Option<Iter<'a, i64, i64>>,
 }
@@ -270,7 +296,7 @@ impl<'a> Model for StepsIter<'a> {
 
     ghost Value = { List (ℤ × ℤ) };
 
-    ghost view = { λ a. option_to_list a.first ++ a.few.now ++ unwrap_or a.rest [] };
+    ghost view = { λ a. option_to_list a.first ++ option_to_list a.second ++ a.few.now ++ unwrap_or a.rest [] };
 }
 
 impl<'a> StepsIter<'a> {
@@ -280,6 +306,19 @@ impl<'a> StepsIter<'a> {
     {
         StepsIter {
             first,
+            second: None,
+            few: &[],
+            rest: None,
+        }
+    }
+
+    /// Iterates over two breakpoints.
+    pub(crate) fn of_two(first: (i64, i64), second: (i64, i64)) -> StepsIter<'a>
+        ensures { result ≡ first ∷ second ∷ [] }
+    {
+        StepsIter {
+            first: Some(first),
+            second: Some(second),
             few: &[],
             rest: None,
         }
@@ -296,6 +335,10 @@ impl<'a> Iterator for StepsIter<'a> {
     fn next(&mut self) -> Option<(i64, i64)> {
         if let Some(step) = self.first {
             self.first = None;
+            return Some(step);
+        }
+        if let Some(step) = self.second {
+            self.second = None;
             return Some(step);
         }
         if let [step, few @ ..] = self.few {

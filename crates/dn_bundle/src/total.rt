@@ -92,6 +92,10 @@ impl Bundle for Total {
         Some(How::Totals { left, right })
     }
 
+    fn touch(&self) -> i64 {
+        0
+    }
+
     fn entries(&self) -> u64 {
         1
     }

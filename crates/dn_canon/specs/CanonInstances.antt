@@ -1,8 +1,8 @@
 -- Which instances are canonical in each form, and which is the canonical instance of an instance (this project's
 -- profile).
-use Rattle.std.specs.Prelude.{ℤ, List, [], ◌∷◌, IsTrue}
-use Rattle.std.specs.List.{AllByRecursion}
+use Rattle.std.specs.Prelude.{ℤ, List, IsTrue}
 use Rattle.dn_arc.specs.declared.arc.Form.{Form}
+use Rattle.dn_arc.specs.Canonical.{ArePairwise}
 use Rattle.dn_arc.specs.Kinds.{ArcKind, costs, capacities, lengths}
 use Rattle.dn_arc.specs.Pairs.{pair_le, bundle}
 use Rattle.dn_instance.specs.Instances.{Graph, Instance, MinCostFlow, MaxFlow, ShortestPaths, Sources, Queries, Coordinates}
@@ -11,8 +11,7 @@ use Rattle.dn_instance.specs.Validity.{IsValid}
 
 -- the arcs are sorted by ascending (SRC, DST)
 abbrev pub AreInOrder : {Arc : Type 0} → List ((ℤ × ℤ) × Arc) → Type 0
-AreInOrder [] = Unit {0}
-AreInOrder (a ∷ rest) = AllByRecursion (λ b. IsTrue (pair_le a.0 b.0)) rest × AreInOrder rest
+AreInOrder arcs = ArePairwise (λ a b. IsTrue (pair_le a.0 b.0)) arcs
 
 -- the arcs are sorted, and those of each ordered pair are canonical in this form
 pub record IsCanonGraph {Arc : Type 0} (kind : ArcKind Arc) (form : Form) (graph : Graph Arc) : Type 0 where

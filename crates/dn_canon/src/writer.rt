@@ -25,6 +25,7 @@ use dn_instance::{Refusal, Table};
 use dn_line::Kind;
 use dn_nodes::NodeMap;
 use dn_sink::{Sink, SinkFault, put_and_flush};
+use dn_table::Walk;
 
 // The lines between the problem line and the arcs of a graph.
 #[derive(Clone, Copy)]
@@ -155,7 +156,9 @@ fn put_table<B: Bundle, K: Sink>(
     ensures { let rows = map (arc_row B.bundle.kind) (listed_arcs (B.bundle.listed form) table.now) in
         Adds K.sink sink.old sink.new block.old block.new (text_of rows) result }
 {
+    let mut walk = Walk::new();
     for (pair, bundle) in table.pairs() {
+        walk = table.touch(walk);
         put_bundle(block, sink, &pair, bundle, form)?;
     }
     Ok(())

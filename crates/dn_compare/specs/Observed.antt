@@ -1,9 +1,11 @@
 -- The values that a verdict compares, for the kinds of instances that have them (this project's profile).
-use Rattle.std.specs.Prelude.{ℕ, suc, zero, ℤ, pos, List, length, Option, Some, None, slice_get, unwrap_or}
+use Rattle.std.specs.Prelude.{ℕ, suc, zero, ℤ, pos, List, Bool, true, false, cond, Option, Some, None, slice_get, unwrap_or}
 use Rattle.std.specs.BTreeMap.{is_at}
 use Rattle.std.specs.Map.{lookup}
 use Rattle.std.specs.Ordering.{int_cmp}
-use Rattle.dn_instance.specs.Instances.{Instance, MinCostFlow, MaxFlow, Sources, Queries, Coordinates}
+use Rattle.dn_line.specs.declared.kind.Kind.{Kind}
+use Rattle.dn_line.specs.declared.kind.Kind.TheVariants.{Ss, P2p}
+use Rattle.dn_instance.specs.Instances.{Instance, MinCostFlow, MaxFlow, Coordinates, kind_of, size_of}
 
 -- the value of a map at an ID, if it has one
 abbrev pub value_of : {X : Type 0} → List (ℤ × X) → ℤ → Option X
@@ -28,11 +30,15 @@ abbrev pub sink_of : Instance → Option ℤ
 sink_of (MaxFlow source sink graph) = Some sink
 sink_of _ = None
 
+-- companions of these kinds are lists of items; that of coordinates is a map
+abbrev pub is_list : Kind → Bool
+is_list Ss = true
+is_list P2p = true
+is_list _ = false
+
 -- the number of items of a list
 abbrev pub count_of : Instance → Option ℕ
-count_of (Sources ids) = Some (length ids)
-count_of (Queries pairs) = Some (length pairs)
-count_of _ = None
+count_of I = cond (is_list (kind_of I)) (Some (size_of I)) None
 
 -- the item at an index, counted from 1
 abbrev pub item_at : {X : Type 0} → List X → ℕ → Option X

@@ -30,7 +30,6 @@ use Rattle.dn_instance.proofs.SumLaws.{total_append, total_passes, cost_passes}
 use Rattle.dn_arc.proofs.TotalKindLaws.{total_some}
 use Rattle.dn_kind.proofs.BundleLaws.{all_end}
 use Rattle.std.proofs.lemmas.Bool.Decides.{nat_tests}
-use Rattle.dn_arc.specs.Splits.{cost_cap}
 use Rattle.dn_arc.specs.Canonical.{IsCostArc}
 use Rattle.dn_arc.proofs.SplitsLaws.{SameAbove, same}
 use Rattle.dn_arc.proofs.CurvesLaws.{above_meaning, cost_cap_same}
@@ -62,7 +61,7 @@ cap_stays : Stays capacities
 cap_stays xs a are is same = record { is = omega (arith, ints, same.is, total_append xs a, total_some xs are, is.some) }
 
 -- arcs whose CAPs sum to 0 mean the same as no arcs
-none_carried : (xs : List CostArc) → AllByRecursion IsCostArc xs → cost_cap xs ≡ pos 0 → SameAbove xs []
+none_carried : (xs : List CostArc) → AllByRecursion IsCostArc xs → costs.capacity xs ≡ pos 0 → SameAbove xs []
 none_carried [] are e = above_meaning.same_refl []
 none_carried (a ∷ xs) are e =
     let some = are.0.some in

@@ -16,7 +16,7 @@ use Rattle.dn_line.specs.Reading.{words_read, spelled}
 use Rattle.dn_line.proofs.FaultLaws.{fault_append}
 use Rattle.dn_line.proofs.SpellingLaws.{faultless_spells}
 use Rattle.dn_line.proofs.AnswerLaws.{read_item}
-use Rattle.dn_instance.specs.Items.{Problem, problem_in, kind_known}
+use Rattle.dn_instance.specs.Items.{problem_in, kind_known}
 use Rattle.dn_instance.specs.Items as Of
 use Rattle.dn_instance.specs.TextFaults.{item_spelled, is_too_long, is_stray, is_repeated, is_same_terminal, is_low_above_cap, is_sum_too_large, item_tests, order_tests, line_tests, line_fault}
 use Rattle.dn_instance.specs.Texts.{with_next, items_of, IsClean}

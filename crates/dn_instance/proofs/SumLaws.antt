@@ -3,7 +3,6 @@ use Rattle.std.proofs.Common.{◌≡◌, ◌-◌, ◌^◌, ℤ, pos, ◌+ℤ◌,
 use Rattle.std.proofs.lemmas.Int.{ints}
 use Rattle.dn_arc.specs.Kinds.{ArcKind, capacities, costs}
 use Rattle.dn_arc.specs.Capacities.{total_cap}
-use Rattle.dn_arc.specs.Splits.{cost_cap}
 use Rattle.dn_arc.specs.declared.arc.CapArc.{CapArc}
 use Rattle.dn_arc.specs.declared.arc.CostArc.{CostArc}
 use Rattle.dn_arc.specs.Pairs.{bundle}
@@ -16,7 +15,7 @@ pub total_append : (xs : List CapArc) (a : CapArc) → total_cap (xs ++ a ∷ []
 total_append [] a = omega (arith, ints)
 total_append (x ∷ xs) a = let i = total_append xs a in omega (arith, ints)
 
-cost_append : (xs : List CostArc) (a : CostArc) → cost_cap (xs ++ a ∷ []) ≡ cost_cap xs +ℤ a.cap
+cost_append : (xs : List CostArc) (a : CostArc) → costs.capacity (xs ++ a ∷ []) ≡ costs.capacity xs +ℤ a.cap
 cost_append [] a = omega (arith, ints)
 cost_append (x ∷ xs) a = let i = cost_append xs a in omega (arith, ints)
 
@@ -26,5 +25,5 @@ pub total_passes : (before : List ((ℤ × ℤ) × CapArc)) (a : (ℤ × ℤ) ×
 total_passes before a = ap (int_lt (pos (2 ^ 63 - 1))) (sym (total_append (bundle a.0 before) a.1))
 
 pub cost_passes : (before : List ((ℤ × ℤ) × CostArc)) (a : (ℤ × ℤ) × CostArc)
-    → int_lt (pos (2 ^ 63 - 1)) (cost_cap (bundle a.0 before) +ℤ a.1.cap) ≡ passes costs before a
+    → int_lt (pos (2 ^ 63 - 1)) (costs.capacity (bundle a.0 before) +ℤ a.1.cap) ≡ passes costs before a
 cost_passes before a = ap (int_lt (pos (2 ^ 63 - 1))) (sym (cost_append (bundle a.0 before) a.1))

@@ -18,8 +18,8 @@ use Rattle.dn_line.specs.declared.code.Code.TheVariants.{LateNode, TooManyLines,
 use Rattle.dn_line.specs.Words.{first, is_skip}
 use Rattle.dn_line.specs.Faults.{Test, first_fault, head_tests, field_tests, fields}
 use Rattle.dn_line.specs.Reading.{words_read}
+use Rattle.dn_arc.specs.Kinds.{costs}
 use Rattle.dn_arc.specs.Capacities.{total_cap}
-use Rattle.dn_arc.specs.Splits.{cost_cap}
 use Rattle.dn_arc.specs.Pairs.{bundle}
 use Rattle.dn_instance.specs.Items.{Problem, problem_of, kind_known, counted, arcs_of, cap_arc_in, cost_arc_in, terminal_of}
 
@@ -135,7 +135,7 @@ is_low_above_cap _ = false
 -- the CAPs of this arc and of the earlier arcs of its ordered pair sum to more than 2^63 - 1
 abbrev pub is_sum_too_large : List Line → Line → Bool
 is_sum_too_large before (Item.MinArc src dst low cap cost) =
-    int_lt (pos (2 ^ 63 - 1)) (cost_cap (bundle (src, dst) (arcs_of cost_arc_in before)) +ℤ cap)
+    int_lt (pos (2 ^ 63 - 1)) (costs.capacity (bundle (src, dst) (arcs_of cost_arc_in before)) +ℤ cap)
 is_sum_too_large before (Item.MaxArc src dst cap) =
     int_lt (pos (2 ^ 63 - 1)) (total_cap (bundle (src, dst) (arcs_of cap_arc_in before)) +ℤ cap)
 is_sum_too_large before _ = false

@@ -86,6 +86,10 @@ pub trait Bundle: Sized + Drop {
         ensures after { IsAfter (bundle.listed form self.now) arc.now result }
         ensures listed { IfSome result (Contains (bundle.listed form self.now)) };
 
+    /// Reads a number of the bundle that lies in memory of its own, or returns 0 if there is none, so that a later call
+    /// does not wait for this memory. This has no contract, because it affects only the speed.
+    fn touch(&self) -> i64;
+
     /// The laws of the kind of arcs.
     ghost laws: { IsKind bundle.kind };
 

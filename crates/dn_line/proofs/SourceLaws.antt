@@ -1,5 +1,5 @@
 -- Lemmas on what a reader read to the front of a buffer.
-use Rattle.std.proofs.Common.{ℕ, ◌<◌, List, ◌++◌, length, take, Option, Result, Ok, Err}
+use Rattle.std.proofs.Common.{ℕ, ◌<◌, List, ◌++◌, length, Option, Result, Ok, Err}
 use Rattle.std.proofs.lemmas.List.{take-append-le}
 use Rattle.std.specs.Io.{ReadsAtMost}
 use Rattle.std.specs.Io.KnownBytes.{ReadConsumes}

@@ -137,6 +137,26 @@ pub(crate) fn marked_before(bytes: &[u8], marks: Marks) -> Option<MarkedFront<'_
     })
 }
 
+// Reads the number of one to eight digits at the beginning, and the space after it. The marks find its end if they are
+// sure to reach so far.
+#[inline(always)]
+pub(crate) fn before_by_marks(bytes: &[u8], marks: Marks) -> Option<NumberFront<'_>>
+    requires marks { AreMarks bytes.now marks }
+    requires room { 9 ≤ length bytes.now }
+    ensures number { IfSome result (λ n. IsNumberBefore bytes.now n.number n.rest.now) }
+    ensures some { IfSome result (λ n. pos 0 ≤ℤ n.number) }
+    ensures within { IfSome result (λ n. length bytes.now ≤ length n.rest.now + 9) }
+{
+    if 23 < marks.from {
+        return short_before(bytes);
+    }
+    let marked = marked_before(bytes, marks)?;
+    Some(NumberFront {
+        number: marked.number,
+        rest: marked.rest,
+    })
+}
+
 // Reads the marked number of one to eight digits at the beginning.
 #[inline(always)]
 pub(crate) fn marked_front(bytes: &[u8], marks: Marks) -> Option<NumberFront<'_>>

@@ -4,8 +4,8 @@ ghost use Rattle.dn_line.specs.State.LineStates.{is_clear};
 ghost use Rattle.dn_line.specs.State.Rows.{AreNatural, AreNumeric, BeginsWithRow, FieldsFit, HasNumbers, field_fits, row_numbers};
 
 use crate::numbers::{
-    after_blanks, after_line_end, after_plain_end, after_space, any_front, last_front,
-    marked_before, marked_front, number_before, short_before,
+    after_blanks, after_line_end, after_plain_end, after_space, any_front, before_by_marks,
+    last_front, marked_before, marked_front, number_before,
 };
 use crate::word::Field;
 use dn_num::marks_of;
@@ -275,10 +275,10 @@ fn short_five(bytes: &[u8]) -> Option<RowBefore<'_>>
     if bytes.len() < SHORT_FIVE {
         return None;
     }
-    let first = short_before(bytes)?;
-    let second = short_before(first.rest)?;
-    let third = short_before(second.rest)?;
-    let fourth = short_before(third.rest)?;
+    let first = marked_before(bytes, marks_of(bytes))?;
+    let second = marked_before(first.rest, first.marks)?;
+    let third = marked_before(second.rest, second.marks)?;
+    let fourth = before_by_marks(third.rest, third.marks)?;
     let fifth = last_front(fourth.rest)?;
     Some(RowBefore {
         row: Row {

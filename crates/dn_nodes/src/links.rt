@@ -3,7 +3,7 @@ ghost use Rattle.std.specs.Prelude.{◌≡◌, ◌<◌, ◌≤◌, ◌+◌, ◌+
 ghost use Rattle.std.specs.Ordering.{int_cmp};
 ghost use Rattle.std.specs.Map.{lookup};
 ghost use Rattle.std.specs.BTreeMap.{insert_entry};
-ghost use Rattle.dn_nodes.specs.State.Nodes.{at, Rises};
+ghost use Rattle.dn_nodes.specs.State.Nodes.{after, at, Rises};
 ghost use Rattle.dn_nodes.specs.State.Links.{direct, AreFar};
 
 use crate::walk::LinksIter;
@@ -120,6 +120,13 @@ impl Links {
         ensures { result ≡ self.now }
     {
         LinksIter::of(&self.links, &self.above)
+    }
+
+    /// Iterates over the nodes after this one with their links, by ascending node.
+    pub(crate) fn after(&self, node: &i64) -> LinksIter<'_>
+        ensures { result ≡ after node.now self.now }
+    {
+        LinksIter::after(node, &self.links, &self.above)
     }
 
     /// Notes the link of a node from 0 on that has none. If an allocation fails, nothing has changed.

@@ -2,7 +2,7 @@
 ghost use Rattle.std.specs.Prelude.{◌≡◌, ◌<◌, ◌≤ℤ◌, ◌^◌, pos, false, [], OnOk, OnErr, length};
 ghost use Rattle.std.specs.Iterator.{YieldsFirstBy, item_count};
 ghost use Rattle.std.specs.Option.{option_copied};
-ghost use Rattle.dn_nodes.specs.State.Nodes.{Gains, Rises, get, is_known, node_entry};
+ghost use Rattle.dn_nodes.specs.State.Nodes.{Gains, Rises, after, get, is_known, node_entry};
 ghost use Rattle.dn_nodes.specs.State.Links.{linked};
 
 use crate::links::Links;
@@ -81,6 +81,18 @@ impl<V: Drop> NodeMap<V> {
         Nodes {
             links: self.links.iter(),
             values: &self.values,
+        }
+    }
+
+    /// Iterates over the nodes after this one that have a value, by ascending node. This does not allocate.
+    pub fn after(&self, node: &i64) -> Nodes<'_, V>
+        ensures value { result ≡ after node.now self.now.entries }
+        ensures rising { Rises self.now.entries }
+    {
+        let values = &self.values;
+        Nodes {
+            links: self.links.after(node),
+            values,
         }
     }
 

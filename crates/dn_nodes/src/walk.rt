@@ -1,11 +1,13 @@
 // Walking over nodes by ascending node.
-ghost use Rattle.std.specs.Prelude.{◌≡◌, ◌≤◌, ◌≤ℤ◌, ◌+ℤ◌, ◌-◌, ◌^◌, pos, ℕ, List, [], ◌++◌, length, drop};
+ghost use Rattle.std.specs.Prelude.{◌≡◌, ◌≤◌, ◌≤ℤ◌, ◌<ℤ◌, ◌+ℤ◌, ◌-◌, ◌^◌, pos, ℕ, List, [], ◌++◌, length, drop};
 ghost use Rattle.std.specs.Iterator.{YieldsFirst, item_count};
 ghost use Rattle.dn_nodes.specs.State.Links.{lead, direct};
+ghost use Rattle.dn_nodes.specs.State.Nodes.{after};
 
 use std::collections::BTreeMap;
-use std::collections::btree_map::Iter;
+use std::collections::btree_map::Range;
 use std::marker::Model;
+use std::ops::Bound;
 
 // Returns how many zeros the links begin with.
 fn zeros(links: &[usize]) -> usize
@@ -33,12 +35,20 @@ fn past(node: &i64, skip: usize) -> i64
     *node + skip as i64
 }
 
+// Returns the least node from 0 on that follows a node.
+fn place_after(node: &i64) -> usize
+    ensures below { node.now <ℤ pos 0 → result ≡ 0 }
+    ensures above { pos 0 ≤ℤ node.now → pos result ≡ node.now +ℤ pos 1 }
+{
+    if *node < 0 { 0 } else { *node as usize + 1 }
+}
+
 /// The remaining nodes with their links, by ascending node.
 #[derive(Drop)]
 pub(crate) struct LinksIter<'a> {
     node: i64,
     links: &'a [usize],
-    above: Iter<'a, i64, usize>,
+    above: Range<'a, i64, usize>,
 }
 
 impl<'a> Model for LinksIter<'a> {
@@ -60,7 +70,23 @@ impl<'a> LinksIter<'a> {
         LinksIter {
             node: 0,
             links,
-            above: above.iter(),
+            above: above.range(..),
+        }
+    }
+
+    /// Iterates over what follows a node in a list of links from node 0 on, and in a map.
+    pub(crate) fn after(
+        node: &i64,
+        links: &'a [usize],
+        above: &'a BTreeMap<i64, usize>,
+    ) -> LinksIter<'a>
+        ensures { result ≡ after node.now (direct 0 links.now ++ above.now.entries) }
+    {
+        let first = place_after(node).min(links.len());
+        LinksIter {
+            node: first as i64,
+            links: links.split_at(first).1,
+            above: above.range((Bound::Excluded(node), Bound::Unbounded)),
         }
     }
 }

@@ -20,6 +20,23 @@ pub struct Table<B: Bundle> {
     entries: Vec<((i64, i64), B)>,
 }
 
+/// Where a walk over the bundles of a table is, and how far they are touched.
+#[derive(Clone, Copy)]
+pub struct Walk {
+    at: usize,
+    due: usize,
+}
+
+impl Walk {
+    /// Returns the beginning of a walk.
+    pub fn new() -> Walk {
+        Walk { at: 0, due: 0 }
+    }
+}
+
+// How many bundles are touched at once.
+const PLACES: usize = 16;
+
 impl<B: Bundle> Model for Table<B> {
     ghost use Rattle.std.specs.Prelude.{ℤ, List};
     ghost use Rattle.std.specs.List.Sorted.{IsStrictlySortedBy};
@@ -70,6 +87,37 @@ impl<B: Bundle> Table<B> {
         Pairs {
             rest: &self.entries[index.min(self.len())..],
         }
+    }
+
+    /// Touches the bundles after the one at `walk.at`, if those touched before were passed. This has no contract,
+    /// because it affects only the speed.
+    #[inline(always)]
+    pub fn touch(&self, walk: Walk) -> Walk {
+        let at = walk.at.saturating_add(1);
+        if at < walk.due {
+            return Walk { at, due: walk.due };
+        }
+        Walk {
+            at,
+            due: self.touch_from(at),
+        }
+    }
+
+    // Touches the bundles from this place on, as many as `PLACES`, and returns the place after them. The result depends
+    // on what was read, so that it is read.
+    #[inline(never)]
+    fn touch_from(&self, from: usize) -> usize {
+        let mut due = from;
+        for _ in 0..PLACES {
+            let Some(entry) = self.entries.get(due) else {
+                return usize::MAX;
+            };
+            if entry.1.touch() == i64::MIN {
+                return due;
+            }
+            due = due.saturating_add(1);
+        }
+        due
     }
 
     /// Returns how many entries the bundles make, if this is below 2^64.

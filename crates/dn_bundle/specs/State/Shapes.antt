@@ -1,27 +1,45 @@
 -- How a curve stores its numbers: in a box, or as one cost with the forced units and the free capacity at it.
-use Rattle.std.specs.Prelude.{◌≡◌, ◌⊎◌, ◌-◌, ◌^◌, ℤ, pos, ◌+ℤ◌, ◌-ℤ◌, ◌*ℤ◌, ◌≤ℤ◌, ◌<ℤ◌, List, [], Option, Some, None, cond, int_lt, false}
+use Rattle.std.specs.Prelude.{◌≡◌, ◌⊎◌, ◌-◌, ◌^◌, ℕ, ℤ, pos, ◌+ℤ◌, ◌-ℤ◌, ◌*ℤ◌, ◌≤ℤ◌, ◌<ℤ◌, List, [], ◌∷◌, Option, Some, None, cond, int_lt, false}
 use Rattle.dn_arc.specs.declared.arc.CostArc.{CostArc}
 use Rattle.dn_bundle.specs.declared.curve.shape.Numbers.{Numbers}
 use Rattle.dn_bundle.specs.declared.curve.shape.OneCost.{OneCost}
+use Rattle.dn_bundle.specs.declared.curve.shape.TwoCosts.{TwoCosts}
 use Rattle.dn_bundle.specs.declared.curve.shape.Shape.{Shape}
-use Rattle.dn_bundle.specs.declared.curve.shape.Shape.TheVariants.{Plain, Full}
+use Rattle.dn_bundle.specs.declared.curve.shape.Shape.TheVariants.{Plain, Two, Full}
 use Rattle.dn_arc.specs.State.CurveListed.{IsSound}
 use Rattle.dn_arc.specs.State.Curves.{CurveNumbers}
-use Rattle.dn_arc.specs.State.Steps.{steps_of, add_step, has_step}
+use Rattle.dn_arc.specs.State.Steps.{steps_of, add_step, has_step, steps_room}
 
--- the breakpoint of the numbers of a curve with one cost, if there is free capacity
-abbrev pub one_step : OneCost → Option (ℤ × ℤ)
-one_step one = cond (int_lt (pos 0) one.free) (Some (one.cost, one.free)) None
+-- the breakpoint of free capacity at one cost, if there is any
+abbrev pub one_step : ℤ → ℤ → Option (ℤ × ℤ)
+one_step cost free = cond (int_lt (pos 0) free) (Some (cost, free)) None
+
+-- the numbers of free capacity alone
+abbrev pub free_numbers : List (ℤ × ℤ) → Numbers
+free_numbers steps = record { units = pos 0; cost = pos 0; total = steps_room steps; steps = steps }
+
+-- the breakpoints of free capacity at two costs, of which the second is higher by this gap
+abbrev pub two_steps : ℕ → ℤ → ℤ × ℤ → List (ℤ × ℤ)
+two_steps gap cost free = (cost, free.0) ∷ (cost +ℤ pos gap, free.1) ∷ []
 
 -- the numbers that a shape represents
 abbrev pub shape_numbers : Shape → Numbers
-shape_numbers (Plain one) = record {
-  units = pos one.low;
-  cost = pos one.low *ℤ one.cost;
-  total = pos one.low +ℤ one.free;
-  steps = steps_of (one_step one) [];
+shape_numbers (Plain low cost free) = record {
+  units = pos low;
+  cost = pos low *ℤ cost;
+  total = pos low +ℤ free;
+  steps = steps_of (one_step cost free) [];
 }
+shape_numbers (Two gap cost free) = free_numbers (two_steps gap cost free)
 shape_numbers (Full numbers) = numbers.value
+
+-- the shape of the numbers of a curve with one cost
+abbrev pub plain : OneCost → Shape
+plain one = Plain one.low one.cost one.free
+
+-- the shape of the numbers of a curve with two costs
+abbrev pub two : TwoCosts → Shape
+two held = Two held.gap held.cost held.free
 
 -- the numbers are those of a valid curve
 abbrev pub AreSound : Numbers → Type 0

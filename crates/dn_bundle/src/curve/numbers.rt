@@ -1,11 +1,38 @@
 // Reads the numbers of a curve from its shape.
 ghost use Rattle.std.specs.Prelude.{◌≡◌, ◌≤◌, ◌+◌, ◌^◌, length, slice_get};
 ghost use Rattle.dn_arc.specs.State.Steps.{step_past, has_step};
+ghost use Rattle.dn_bundle.specs.State.Shapes.{two_steps};
 
 use crate::cost128::cost_of;
 use crate::curve::Curve;
-use crate::curve::shape::Shape;
+use crate::curve::shape::{Shape, first_of, second_of, step_at};
 use crate::steps::StepsIter;
+
+// Returns the breakpoint at `i`, counted from 0, of two.
+fn step_of_two(gap: &u16, cost: &i32, free: &(i64, i64), i: u64) -> Option<(i64, i64)>
+    ensures { result ≡ slice_get (two_steps gap.now cost.now free.now) i }
+{
+    if i == 0 {
+        Some(first_of(cost, free))
+    } else if i == 1 {
+        Some(second_of(gap, cost, free))
+    } else {
+        None
+    }
+}
+
+// Returns the first of two breakpoints whose cost is above `past`.
+#[inline(always)]
+fn past_of_two(gap: &u16, cost: &i32, free: &(i64, i64), past: &i64) -> Option<(i64, i64)>
+    ensures { result ≡ step_past (two_steps gap.now cost.now free.now) past.now }
+{
+    let first = first_of(cost, free);
+    if *past < first.0 {
+        return Some(first);
+    }
+    let second = second_of(gap, cost, free);
+    if *past < second.0 { Some(second) } else { None }
+}
 
 impl Curve {
     // Returns the forced units.
@@ -13,7 +40,8 @@ impl Curve {
         ensures { result ≡ self.now.units }
     {
         match &self.shape {
-            Shape::Plain(one) => i64::from(one.low),
+            Shape::Plain { low, .. } => i64::from(*low),
+            Shape::Two { .. } => 0,
             Shape::Full(numbers) => numbers.units,
         }
     }
@@ -23,7 +51,8 @@ impl Curve {
         ensures { result ≡ self.now.cost }
     {
         match &self.shape {
-            Shape::Plain(one) => cost_of(&i64::from(one.low), &one.cost),
+            Shape::Plain { low, cost, .. } => cost_of(&i64::from(*low), cost),
+            Shape::Two { .. } => 0,
             Shape::Full(numbers) => numbers.cost,
         }
     }
@@ -33,7 +62,8 @@ impl Curve {
         ensures { result ≡ self.now.total }
     {
         match &self.shape {
-            Shape::Plain(one) => i64::from(one.low) + one.free,
+            Shape::Plain { low, free, .. } => i64::from(*low) + *free,
+            Shape::Two { free, .. } => free.0 + free.1,
             Shape::Full(numbers) => numbers.total,
         }
     }
@@ -44,7 +74,8 @@ impl Curve {
         ensures small { result ≤ 2 ^ 63 + 3 }
     {
         match &self.shape {
-            Shape::Plain(one) => { if 0 < one.free { 1 } else { 0 } }
+            Shape::Plain { free, .. } => { if 0 < *free { 1 } else { 0 } }
+            Shape::Two { .. } => 2,
             Shape::Full(numbers) => numbers.steps.len(),
         }
     }
@@ -54,7 +85,8 @@ impl Curve {
         ensures { result ≡ slice_get self.now.steps 0 }
     {
         match &self.shape {
-            Shape::Plain(one) => one.step(),
+            Shape::Plain { cost, free, .. } => step_at(cost, free),
+            Shape::Two { cost, free, .. } => Some(first_of(cost, free)),
             Shape::Full(numbers) => numbers.steps.first(),
         }
     }
@@ -64,7 +96,8 @@ impl Curve {
         ensures { result ≡ slice_get self.now.steps i }
     {
         match &self.shape {
-            Shape::Plain(one) => { if i == 0 { one.step() } else { None } }
+            Shape::Plain { cost, free, .. } => { if i == 0 { step_at(cost, free) } else { None } }
+            Shape::Two { gap, cost, free } => step_of_two(gap, cost, free, i),
             Shape::Full(numbers) => numbers.steps.get(i),
         }
     }
@@ -75,7 +108,14 @@ impl Curve {
         ensures { result ≡ step_past self.now.steps past.now }
     {
         match &self.shape {
-            Shape::Plain(one) => { if *past < one.cost { one.step() } else { None } }
+            Shape::Plain { cost, free, .. } => {
+                if *past < *cost {
+                    step_at(cost, free)
+                } else {
+                    None
+                }
+            }
+            Shape::Two { gap, cost, free } => past_of_two(gap, cost, free, past),
             Shape::Full(numbers) => numbers.steps.past(past),
         }
     }
@@ -85,7 +125,9 @@ impl Curve {
         ensures { result ≡ has_step self.now.steps at.now }
     {
         match &self.shape {
-            Shape::Plain(one) => *at == one.cost && 0 < one.free,
+            Shape::Plain { cost, free, .. } => *at == *cost && 0 < *free,
+            Shape::Two { gap, cost, free } => *at == first_of(cost, free).0
+                || *at == second_of(gap, cost, free).0,
             Shape::Full(numbers) => numbers.steps.has(at),
         }
     }
@@ -95,7 +137,11 @@ impl Curve {
         ensures { result ≡ self.now.steps }
     {
         match &self.shape {
-            Shape::Plain(one) => StepsIter::of(one.step()),
+            Shape::Plain { cost, free, .. } => StepsIter::of(step_at(cost, free)),
+            Shape::Two { gap, cost, free } => StepsIter::of_two(
+                first_of(cost, free),
+                second_of(gap, cost, free),
+            ),
             Shape::Full(numbers) => numbers.steps.iter(),
         }
     }

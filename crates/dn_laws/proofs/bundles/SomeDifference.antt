@@ -2,6 +2,7 @@
 use Rattle.std.proofs.Common.{◌≡◌, ◌≢◌, ◌⊎◌, inl, inr, ℕ, suc, zero, ℤ, pos, negsuc, ◌+ℤ◌, ◌≤ℤ◌, ◌<ℤ◌, ◌↔◌, List, [], ◌∷◌, Option, Some, None, refl, ap, arith}
 use Rattle.std.specs.List.{AllByRecursion}
 use Rattle.std.proofs.lemmas.Int.{ints, by_lt_z}
+use Rattle.dn_arc.specs.Kinds.{costs}
 use Rattle.dn_arc.specs.declared.arc.LengthArc.{LengthArc}
 use Rattle.dn_arc.specs.declared.arc.CapArc.{CapArc}
 use Rattle.dn_arc.specs.declared.arc.CostArc.{CostArc}
@@ -10,7 +11,7 @@ use Rattle.dn_arc.specs.declared.difference.How.{How}
 use Rattle.dn_arc.specs.declared.difference.How.TheVariants.{Lengths, Totals, Costs}
 use Rattle.dn_arc.specs.Capacities.{total_cap}
 use Rattle.dn_arc.specs.Lengths.{LeastLength}
-use Rattle.dn_arc.specs.Splits.{LeastCost, cost_cap}
+use Rattle.dn_arc.specs.Splits.{LeastCost}
 use Rattle.dn_arc.specs.Meanings.{SameLength, SameTotal, SameCurve}
 use Rattle.dn_arc.specs.Canonical.{IsCostArc}
 use Rattle.dn_arc.specs.Differences.{IsLengthOf, IsCostOf, IsGap, LengthsDiffer, TotalsDiffer, CurvesDiffer}
@@ -129,7 +130,7 @@ module _ (xs ys : List CostArc) where
     )
 
     -- if the least costs are the same up to both capacities, the lists mean the same
-    past_both : (n : ℤ) → cost_cap xs <ℤ n → cost_cap ys <ℤ n → SameBelow n → SameCurve xs ys
+    past_both : (n : ℤ) → costs.capacity xs <ℤ n → costs.capacity ys <ℤ n → SameBelow n → SameCurve xs ys
     past_both n p q same = record {
       there =
           λ x k l. by_lt_z x n (λ lt. (same x k lt).0 l)
@@ -141,9 +142,11 @@ module _ (xs ys : List CostArc) where
 
     pub curve_or_differ : SameCurve xs ys ⊎ ((how : How) × CurvesDiffer xs ys how)
     curve_or_differ =
-        by_room (cost_cap xs +ℤ cost_cap ys) refl (cost_kind.capacity_some xs h) (cost_kind.capacity_some ys g)
+        by_room (costs.capacity xs +ℤ costs.capacity ys) refl
+        (cost_kind.capacity_some xs h) (cost_kind.capacity_some ys g)
       where
-        by_room : (n : ℤ) → n ≡ cost_cap xs +ℤ cost_cap ys → pos 0 ≤ℤ cost_cap xs → pos 0 ≤ℤ cost_cap ys
+        by_room : (n : ℤ) → n ≡ costs.capacity xs +ℤ costs.capacity ys → pos 0 ≤ℤ costs.capacity xs
+            → pos 0 ≤ℤ costs.capacity ys
             → SameCurve xs ys ⊎ ((how : How) × CurvesDiffer xs ys how)
         by_room (pos n) e l r = elim (search_gap (suc n) none_below) [
           | inl same ↦ inl (past_both (pos (suc n)) (omega (arith, ints)) (omega (arith, ints)) same)

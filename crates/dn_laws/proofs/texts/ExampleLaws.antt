@@ -8,7 +8,6 @@ use Rattle.dn_arc.specs.declared.arc.Form.{Form}
 use Rattle.dn_arc.specs.Canonical.{IsCostArc, AreCanonCosts}
 use Rattle.dn_arc.specs.Meanings.{SameCurve}
 use Rattle.dn_arc.specs.Kinds.{costs}
-use Rattle.dn_arc.specs.Splits.{cost_cap}
 use Rattle.dn_laws.specs.State.BundleExamples.{arc, worked_one, worked_two}
 use Rattle.dn_arc.proofs.CostKindLaws.{cost_kind}
 use Rattle.dn_arc.proofs.CurvesLaws.{curve_meaning}
@@ -40,13 +39,13 @@ in_order arcs = rw (append-nil (placed here arcs)) at ((order_placed here arcs [
 
 -- placed arcs whose CAPs sum within the range make a valid problem
 pub valid_at : (arcs : List CostArc) → AllByRecursion (IsPlaced costs (pos 2)) (placed here arcs)
-    → cost_cap arcs ≤ℤ pos (2 ^ 63 - 1) → IsValid (on_one_pair arcs)
+    → costs.capacity arcs ≤ℤ pos (2 ^ 63 - 1) → IsValid (on_one_pair arcs)
 valid_at arcs each sum = (
   record {
     some_nodes = omega (arith, ints);
     nodes_fit = refl;
     placed = each;
-    capacities = at_each (λ l. cost_cap l ≤ℤ pos (2 ^ 63 - 1)) arcs sum (omega (arith, ints));
+    capacities = at_each (λ l. costs.capacity l ≤ℤ pos (2 ^ 63 - 1)) arcs sum (omega (arith, ints));
   },
   record { map = no_keys int_cmp; each = tt },
 )

@@ -14,7 +14,6 @@ use Rattle.dn_arc.specs.Kinds.{ArcKind, capacities, costs, lengths}
 use Rattle.dn_arc.specs.Lengths.{HasLength, LeastLength}
 use Rattle.dn_arc.specs.Meanings.{SameCurve, SameLength}
 use Rattle.dn_arc.specs.Pairs.{bundle, same_pair}
-use Rattle.dn_arc.specs.Splits.{cost_cap}
 use Rattle.dn_arc.specs.State.Bundles.{IsKind, NumbersFit, listed_of}
 use Rattle.dn_arc.specs.State.CanonArcs.{AreCanonArcsOf}
 use Rattle.dn_arc.specs.State.CurveListed.{IsSound, listed}
@@ -100,12 +99,12 @@ record HasCurve (xs : List CostArc) : Type 0 where
   units : ℤ
   cost : ℤ
   steps : List (ℤ × ℤ)
-  sound : IsSound units cost (cost_cap xs) steps
+  sound : IsSound units cost (costs.capacity xs) steps
   same : SameCurve (listed One units cost steps) xs
 
 -- one more arc
 module _ (a : CostArc) (rest : List CostArc) (is : IsCostArc a) (fk : FitsSigned w64 a.cost)
-    (ft : FitsSigned w64 (cost_cap (a ∷ rest))) (c : HasCurve rest) where
+    (ft : FitsSigned w64 (costs.capacity (a ∷ rest))) (c : HasCurve rest) where
   abbrev units : ℤ
   units = c.units +ℤ a.low
 
@@ -115,13 +114,13 @@ module _ (a : CostArc) (rest : List CostArc) (is : IsCostArc a) (fk : FitsSigned
   abbrev steps : List (ℤ × ℤ)
   steps = add_step c.steps (a.cost, a.cap -ℤ a.low)
 
-  total : cost_cap (a ∷ rest) ≡ cost_cap rest +ℤ a.cap
+  total : costs.capacity (a ∷ rest) ≡ costs.capacity rest +ℤ a.cap
   total = omega (arith, ints)
 
   grown : SameCurve (listed One units cost steps) (listed One c.units c.cost c.steps ++ a ∷ [])
   grown =
-      grown_same c.units c.cost (cost_cap rest) c.steps a (cost_cap (a ∷ rest)) c.sound is total ft fk units cost
-      (cost_cap (a ∷ rest)) steps refl refl refl refl
+      grown_same c.units c.cost (costs.capacity rest) c.steps a (costs.capacity (a ∷ rest)) c.sound is total ft fk units
+      cost (costs.capacity (a ∷ rest)) steps refl refl refl refl
 
   curve_push : HasCurve (a ∷ rest)
   curve_push = record {
@@ -129,8 +128,8 @@ module _ (a : CostArc) (rest : List CostArc) (is : IsCostArc a) (fk : FitsSigned
     cost = cost;
     steps = steps;
     sound =
-        grown_sound c.units c.cost (cost_cap rest) c.steps a (cost_cap (a ∷ rest)) c.sound is total ft fk units cost
-        (cost_cap (a ∷ rest)) steps refl refl refl refl;
+        grown_sound c.units c.cost (costs.capacity rest) c.steps a (costs.capacity (a ∷ rest)) c.sound is total ft fk
+        units cost (costs.capacity (a ∷ rest)) steps refl refl refl refl;
     same =
         curve_meaning.same_trans (listed One units cost steps) (listed One c.units c.cost c.steps ++ a ∷ []) (a ∷ rest)
         grown
@@ -139,8 +138,8 @@ module _ (a : CostArc) (rest : List CostArc) (is : IsCostArc a) (fk : FitsSigned
         (curve_meaning.same_more a (listed One c.units c.cost c.steps) rest c.same));
   }
 
-curve_of : (xs : List CostArc) → AllByRecursion IsCostArc xs → NumbersFit costs xs → cost_cap xs ≤ℤ pos (2 ^ 63 - 1)
-    → HasCurve xs
+curve_of : (xs : List CostArc) → AllByRecursion IsCostArc xs → NumbersFit costs xs
+    → costs.capacity xs ≤ℤ pos (2 ^ 63 - 1) → HasCurve xs
 curve_of [] is fit most = record {
   units = pos 0;
   cost = pos 0;
@@ -156,7 +155,7 @@ curve_of [] is fit most = record {
   same = curve_meaning.same_refl [];
 }
 curve_of (a ∷ rest) is fit most =
-    curve_push a rest is.0 fit.0.1.1.0 (fits_some (cost_cap (a ∷ rest)) (caps_some (a ∷ rest) is) most)
+    curve_push a rest is.0 fit.0.1.1.0 (fits_some (costs.capacity (a ∷ rest)) (caps_some (a ∷ rest) is) most)
     (curve_of rest is.1 fit.1 (omega (arith, ints, caps_some rest is.1)))
 
 has_costs : EachHasCanon costs
@@ -164,8 +163,8 @@ has_costs xs is fit most =
     let c = curve_of xs is fit most in
     record {
       arcs = λ form. listed form c.units c.cost c.steps;
-      canonical = sound_canonical c.units c.cost (cost_cap xs) c.steps c.sound;
-      fit = sound_fit c.units c.cost (cost_cap xs) c.steps c.sound;
+      canonical = sound_canonical c.units c.cost (costs.capacity xs) c.steps c.sound;
+      fit = sound_fit c.units c.cost (costs.capacity xs) c.steps c.sound;
       same = in_form xs c;
     }
   where
@@ -173,7 +172,7 @@ has_costs xs is fit most =
     in_form xs c One = c.same
     in_form xs c Two =
         curve_meaning.same_trans (listed Two c.units c.cost c.steps) (listed One c.units c.cost c.steps) xs
-        (sound_same c.units c.cost (cost_cap xs) c.steps c.sound) c.same
+        (sound_same c.units c.cost (costs.capacity xs) c.steps c.sound) c.same
 
 -- a valid graph has a canonical graph
 module _ {Arc : Type 0} {kind : ArcKind Arc} (laws : IsKind kind) (each : EachHasCanon kind) (form : Form)

@@ -2,6 +2,8 @@
 use Rattle.std.specs.Prelude.{◌≡◌, ℤ, List, Bool, ◌||◌, Option, None, Some}
 use Rattle.std.specs.Borrow.{Bor}
 use Rattle.std.specs.BTreeMap.{insert_entry, is_at}
+use Rattle.std.specs.BTreeMap.Range.{entries_between}
+use Rattle.std.specs.declared.ops.Bound.TheVariants.{Excluded, Unbounded}
 use Rattle.std.specs.List.{list_any}
 use Rattle.std.specs.List.Sorted.{IsStrictlySortedBy}
 use Rattle.std.specs.Map.{keys_of, lookup}
@@ -23,6 +25,10 @@ get nodes node = lookup (at node) nodes.entries
 -- whether this is one of the nodes
 abbrev pub is_known : {V : Type 0} → Nodes V → ℤ → Bool
 is_known nodes node = list_any (at node) nodes.known
+
+-- the entries of the nodes after this one
+abbrev pub after : {V : Type 0} → ℤ → List (ℤ × V) → List (ℤ × V)
+after node es = entries_between int_cmp (Excluded node) Unbounded es
 
 -- the entries with that of a node, if it has a value
 abbrev pub with_entry : {V : Type 0} → List (ℤ × V) → ℤ → Option V → List (ℤ × V)

@@ -1,7 +1,6 @@
 use Rattle.std.proofs.Common.{rules, sym, ap, ◌∙◌, w64, ◌+ℤ◌}
 use Rattle.std.proofs.lemmas.Int.{to_z-of_z}
-use Rattle.dn_bundle.specs.State.Shapes.{shape_numbers}
-use Rattle.dn_bundle.specs.declared.curve.shape.Shape.TheVariants.{Plain}
+use Rattle.dn_bundle.specs.State.Shapes.{plain, shape_numbers}
 use Rattle.dn_bundle.proofs.ShapeLaws.{same_sound, same_grown, made_units, made_cost, made_total}
 use Rattle.dn_bundle.proofs.curve.shape.full_with.Goals as goal
 
@@ -10,7 +9,7 @@ add-requires-clause-sound c =
     let one = c.args.one in
     let units = c.from-units.result in
     let cost = c.cost_of.result in
-    same_sound (shape_numbers (Plain one)) _ _ _ _
+    same_sound (shape_numbers (plain one)) _ _ _ _
     (made_units one units cost c.requires.sound c.from-units.ensures c.cost_of.ensures (search rules)
     (search rules) (search rules))
     (made_cost one units cost c.requires.sound c.from-units.ensures c.cost_of.ensures (search rules)
@@ -33,7 +32,7 @@ returns c =
     let one = c.args.one in
     let units = c.from-units.result in
     let cost = c.cost_of.result in
-    let old = shape_numbers (Plain one) in
+    let old = shape_numbers (plain one) in
     rw c.in_ok-new.ensures.ok (same_grown old _ c.add.new.self c.args.arc
     (made_units one units cost c.requires.sound c.from-units.ensures c.cost_of.ensures (search rules)
     (search rules) (search rules))

@@ -1,0 +1,10 @@
+use Rattle.std.proofs.Common.{◌≡◌, ◌+◌, ◌++◌, length, take}
+use Rattle.dn_arc_lines.specs.State.Reading.{numbered}
+use Rattle.dn_arc_lines.proofs.arc_line.put_rows.Given as goal
+
+abbrev pub invariant-loop-i : goal.invariant-loop-i
+invariant-loop-i l =
+    record {
+      kept : length l.out ≡ length l.fn.out;
+      rows : take (l.at + l.i) l.out ≡ take l.at l.fn.out ++ numbered l.number (take l.i l.rows);
+    }

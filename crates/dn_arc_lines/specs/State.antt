@@ -1,0 +1,2 @@
+pub mod ArcLines
+pub mod Reading
