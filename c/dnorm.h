@@ -27,14 +27,17 @@
    The order of calls is free: a call that a `dnorm` is not for changes nothing, and returns DNORM_WRONG_CALL, the kind
    DNORM_NO_KIND, or DNORM_NOT_BOTH.
 
+   The arc lines of the text, which the instance does not keep, come from another reader (dnorm_lines_begin). The inline
+   functions of dnorm_tools.h feed both, and put a flow on canonical arcs back on the arc lines.
+
    Some things are tested, and not proved. Of rule 3 it is proved that a call with a `const dnorm *` has that `dnorm`
    on loan, that a loan can be given any number of times, and that nothing is written through it; that several threads
    read one `dnorm` at once is tested. So are these: dnorm_finish frees the reader, and dnorm_free all memory that a
    `dnorm` owns. No call opens a file, writes to a stream, or keeps anything outside of the `dnorm` that it is given,
    and no byte of a piece is kept. No call needs more stack than rule 5 says. dnorm_facts takes the same time for any
-   instance; dnorm_arc_count walks over the pairs; dnorm_next and dnorm_columns search for their place, and then walk
-   over what they copy; dnorm_items may also walk over the items before its place, so let it copy all of them. Nor are
-   the macros at the end of dnorm.h proved, which allow null pointers where there is no room. */
+   instance; dnorm_arc_count walks over the pairs; dnorm_next and dnorm_items search for their place, and then walk over
+   what they copy. Nor are the inline functions proved: dnorm_columns, and the macros at the end of dnorm.h, which allow
+   null pointers where there is no room. That dnorm_free takes null is tested as well. */
 #ifndef DNORM_H
 #define DNORM_H
 #include <stdbool.h>
@@ -47,13 +50,23 @@
 extern "C" {
 #endif
 
-/* The number of the interface that this file declares; dnorm_abi returns that of the library. */
-#define DNORM_ABI 2
+/* Addresses have 64 bits in all that the library declares. */
+#if SIZE_MAX < UINT64_MAX
+#error "libdnorm needs a compiler for a machine of 64 bits"
+#endif
+
+/* The number of the interface that this file declares, which the name of the shared library ends with:
+
+       1   libdnorm.so.1   1.2 and 1.3
+       2   libdnorm.so.2   2.0
+       3   libdnorm.so.3   3.0 */
+#define DNORM_ABI 3
 
 /* The version of this file: 10000 times its first number, 100 times its second, and its third. */
 #define DNORM_VERSION 30000
 
-/* Owns nothing, a reader, an instance, a refusal, or a canonical text. Its members are the library's. */
+/* Owns nothing, a reader, an instance, a refusal, a canonical text, or a reader of arc lines. Its members are the
+   library's. */
 typedef struct dnorm {
     void *work;
     bool full;
@@ -150,7 +163,8 @@ typedef struct dnorm_arc {
 typedef struct dnorm_place {
     /* So many pairs, or items, are before it. */
     size_t pairs;
-    /* Whether arcs of the next pair are before it, and the numbers of the last of them. */
+    /* Whether arcs of the next pair are before it, and the numbers of the last of them; whether items are before it,
+       and in `a` the ID of the last of them. */
     uint64_t within;
     int64_t a, b, c;
 } dnorm_place;
@@ -223,6 +237,22 @@ typedef struct dnorm_fit {
     int64_t node;
 } dnorm_fit;
 
+/* An arc line of a text: the number of the line, counted from 1, its nodes, and its numbers as in dnorm_arc. */
+typedef struct dnorm_row {
+    uint64_t line;
+    int64_t tail, head, a, b, c;
+} dnorm_row;
+
+/* What dnorm_lines took and gave. */
+typedef struct dnorm_lines_given {
+    /* How many bytes it took, and how many arc lines it wrote. */
+    size_t used, count;
+    /* DNORM_FINE, the fault of a line by itself, or DNORM_WRONG_CALL. */
+    uint8_t code;
+    /* The line that has the fault, counted from 1; 0 otherwise. */
+    uint64_t line;
+} dnorm_lines_given;
+
 /* Makes a reader in `reader`, which owns nothing before.
    Codes: DNORM_FINE; DNORM_MEMORY, and it owns nothing; DNORM_WRONG_CALL if it owns anything, which it keeps. */
 dnorm_status dnorm_begin(dnorm *reader);
@@ -235,6 +265,17 @@ dnorm_status dnorm_feed(dnorm *reader, const uint8_t *bytes, size_t length);
 /* Ends the text, and frees the reader. `reader` then owns the instance, or, if there is none, the refusal.
    Codes: DNORM_FINE; the first fault of the text; DNORM_MEMORY; DNORM_WRONG_CALL if there is no reader. */
 dnorm_status dnorm_finish(dnorm *reader);
+
+/* Makes a reader of arc lines in `reader`, as dnorm_begin makes a reader of an instance. It checks each line by itself,
+   and keeps only the kind of the problem line, so it takes a text for right that dnorm_feed refuses: ask both. */
+dnorm_status dnorm_lines_begin(dnorm *reader);
+
+/* Feeds the next bytes of the text, and writes the arc lines among the lines that end in them to `out`, in the order of
+   the text. It takes all bytes, unless it has filled `out`: then feed it the others, with room. Feed an LF behind the
+   last byte of the text, so that its last line ends.
+   Codes: DNORM_FINE; 1 to 5, 8 to 12 or 21 for the first line that has this fault by itself: no more bytes are taken
+   after it. DNORM_WRONG_CALL if there is no reader of arc lines. */
+dnorm_lines_given dnorm_lines(dnorm *reader, const uint8_t *bytes, size_t length, dnorm_row *out, size_t room);
 
 /* Returns what the instance is, or what the problem line declares once a reader has read it. The kind is DNORM_NO_KIND
    for any other `dnorm`. */
@@ -251,13 +292,6 @@ dnorm_count dnorm_arc_count(const dnorm *graph, uint8_t form);
    Codes: DNORM_FINE; DNORM_WRONG_CALL if there is no graph. */
 dnorm_count dnorm_next(const dnorm *graph, uint8_t form, dnorm_place *place, dnorm_arc *out, size_t room);
 
-/* Copies canonical arcs in form 1 or 2 as dnorm_next does, each number to a column of its own: as many arcs as the
-   longest column has room for. A shorter column has its part of the first of them, so one that is not wanted has room
-   0. */
-dnorm_count dnorm_columns(const dnorm *graph, uint8_t form, dnorm_place *place, int64_t *tails, size_t tails_room,
-                          int64_t *heads, size_t heads_room, int64_t *a, size_t a_room, int64_t *b, size_t b_room,
-                          int64_t *c, size_t c_room);
-
 /* Copies what the instance has beside its arcs to `out`, from the item after `place` on, as dnorm_next copies arcs:
    flows by ascending node, the source with the sink, items in the order of the text, points by ascending ID.
    Codes: DNORM_FINE; DNORM_WRONG_CALL if there is no instance. */
@@ -271,12 +305,7 @@ dnorm_status dnorm_canon(const dnorm *instance, uint8_t form, dnorm *text);
 /* Copies the bytes of a text to `out`, from the one at `from`, counted from 0, as far as there is room. It copies fewer
    than there is room for only at the end of the text.
    Codes: DNORM_FINE; DNORM_WRONG_CALL if there is no text. */
-dnorm_count dnorm_text(const dnorm *text, size_t from, uint8_t *out, size_t room);
-
-/* Copies the name of what it owns to `out`, as far as there is room, without a byte 0 behind it: the name of a refusal,
-   as `dnorm help` has it, also of a reader that has refused its text, or the name of the kind of an instance.
-   Codes: DNORM_FINE; DNORM_WRONG_CALL if it owns neither. */
-dnorm_count dnorm_name(const dnorm *any, uint8_t *out, size_t room);
+dnorm_count dnorm_text(dnorm *text, size_t from, uint8_t *out, size_t room);
 
 /* Returns where two instances first differ: DNORM_SAME if they pose the same problem, and DNORM_NOT_BOTH if one of them
    is no instance. */
@@ -285,11 +314,8 @@ dnorm_difference dnorm_compare(const dnorm *left, const dnorm *right);
 /* Returns whether `companion` is an `ss`, `p2p` or `co` instance that names only nodes of `graph`, an `sp` instance. */
 dnorm_fit dnorm_fits(const dnorm *graph, const dnorm *companion);
 
-/* Frees what it owns. It then owns nothing, and may be used anew. */
+/* Frees what it owns. It then owns nothing, and may be used anew. Nothing happens if `any` is null. */
 void dnorm_free(dnorm *any);
-
-/* Returns the DNORM_ABI of the library that is linked. A library of another number may not fit this file. */
-uint32_t dnorm_abi(void);
 
 #ifdef __cplusplus
 }
@@ -302,9 +328,41 @@ uint32_t dnorm_abi(void);
 #define DNORM_INLINE static inline
 #endif
 
+/* Columns for canonical arcs, each with the same room: their tails, heads and numbers, as dnorm_arc has them. A column
+   that is null is not wanted. */
+typedef struct dnorm_arc_columns {
+    int64_t *tails, *heads, *a, *b, *c;
+} dnorm_arc_columns;
+
+/* How many arcs inline functions copy at a time. */
+#define DNORM_SOME 256
+
+/* Copies canonical arcs in form 1 or 2 as dnorm_next does, each number to a column of its own. */
+DNORM_INLINE dnorm_count dnorm_columns(const dnorm *graph, uint8_t form, dnorm_place *place, dnorm_arc_columns out,
+                                       size_t room) {
+#define DNORM_COPY(column, number) \
+    for (i = 0; out.column && i < some.count; i++) out.column[made.count + i] = arcs[i].number
+    dnorm_arc arcs[DNORM_SOME];
+    dnorm_count made = {0, DNORM_FINE}, some;
+    size_t wanted, i;
+    do {
+        wanted = room - made.count < DNORM_SOME ? room - made.count : DNORM_SOME;
+        some = dnorm_next(graph, form, place, arcs, wanted);
+        DNORM_COPY(tails, tail);
+        DNORM_COPY(heads, head);
+        DNORM_COPY(a, a);
+        DNORM_COPY(b, b);
+        DNORM_COPY(c, c);
+        made.count += some.count;
+        made.code = some.code;
+    } while (some.count == wanted && made.count < room);
+    return made;
+#undef DNORM_COPY
+}
+
 /* The macros below have the names of functions, and call them by inline functions. By them a pointer may also be null
-   where its number is 0, and so may the `dnorm` that dnorm_free frees; and dnorm_canon of a `dnorm` into itself is
-   DNORM_WRONG_CALL. `(dnorm_free)(any)` calls the function alone. */
+   where its number is 0; and dnorm_canon of a `dnorm` into itself is DNORM_WRONG_CALL. `(dnorm_feed)(reader, bytes,
+   length)` calls the function alone. */
 DNORM_INLINE dnorm_status dnorm_inline_feed(dnorm *reader, const uint8_t *bytes, size_t length) {
     const uint8_t none = 0;
     return dnorm_feed(reader, length ? bytes : &none, length);
@@ -314,15 +372,6 @@ DNORM_INLINE dnorm_count dnorm_inline_next(const dnorm *graph, uint8_t form, dno
                                            size_t room) {
     dnorm_arc none;
     return dnorm_next(graph, form, place, room ? out : &none, room);
-}
-
-DNORM_INLINE dnorm_count dnorm_inline_columns(const dnorm *graph, uint8_t form, dnorm_place *place, int64_t *tails,
-                                              size_t tails_room, int64_t *heads, size_t heads_room, int64_t *a,
-                                              size_t a_room, int64_t *b, size_t b_room, int64_t *c, size_t c_room) {
-    int64_t none;
-    return dnorm_columns(graph, form, place, tails_room ? tails : &none, tails_room, heads_room ? heads : &none,
-                         heads_room, a_room ? a : &none, a_room, b_room ? b : &none, b_room, c_room ? c : &none,
-                         c_room);
 }
 
 DNORM_INLINE dnorm_count dnorm_inline_items(const dnorm *instance, dnorm_place *place, dnorm_item *out, size_t room) {
@@ -335,27 +384,23 @@ DNORM_INLINE dnorm_status dnorm_inline_canon(const dnorm *instance, uint8_t form
     return instance == text ? wrong_call : dnorm_canon(instance, form, text);
 }
 
-DNORM_INLINE dnorm_count dnorm_inline_text(const dnorm *text, size_t from, uint8_t *out, size_t room) {
+DNORM_INLINE dnorm_count dnorm_inline_text(dnorm *text, size_t from, uint8_t *out, size_t room) {
     uint8_t none;
     return dnorm_text(text, from, room ? out : &none, room);
 }
 
-DNORM_INLINE dnorm_count dnorm_inline_name(const dnorm *any, uint8_t *out, size_t room) {
-    uint8_t none;
-    return dnorm_name(any, room ? out : &none, room);
-}
-
-DNORM_INLINE void dnorm_inline_free(dnorm *any) {
-    if (any) dnorm_free(any);
+DNORM_INLINE dnorm_lines_given dnorm_inline_lines(dnorm *reader, const uint8_t *bytes, size_t length, dnorm_row *out,
+                                                  size_t room) {
+    const uint8_t none = 0;
+    dnorm_row no_row;
+    return dnorm_lines(reader, length ? bytes : &none, length, room ? out : &no_row, room);
 }
 
 #define dnorm_feed(...) dnorm_inline_feed(__VA_ARGS__)
 #define dnorm_next(...) dnorm_inline_next(__VA_ARGS__)
-#define dnorm_columns(...) dnorm_inline_columns(__VA_ARGS__)
 #define dnorm_items(...) dnorm_inline_items(__VA_ARGS__)
 #define dnorm_canon(...) dnorm_inline_canon(__VA_ARGS__)
 #define dnorm_text(...) dnorm_inline_text(__VA_ARGS__)
-#define dnorm_name(...) dnorm_inline_name(__VA_ARGS__)
-#define dnorm_free(...) dnorm_inline_free(__VA_ARGS__)
+#define dnorm_lines(...) dnorm_inline_lines(__VA_ARGS__)
 #pragma pop_macro("dnorm")
 #endif

@@ -2,14 +2,15 @@
 //
 //     Instance            an instance that a text was read as: what it is, its arcs and items, its canonical text
 //     Path, Descriptor    where a text is that an instance is read from: a file, or an open one
+//     with_lines          what an Instance or a Reader is also given to keep the arc lines of the text, for spread
 //     Reader              reads a text that comes in pieces
-//     write               writes a text of items and arcs
+//     write, write_flow   write a text of items and arcs, and a flow on arc lines
 //     Refused             why there is no instance or no text, where that is thrown; out of memory is std::bad_alloc
 //
 // Instance and Reader free what they own, can be moved and not copied, and keep the rules of dnorm.h. The const members
 // of one Instance may be called by several threads at the same time. Any call of an Instance that was moved from, a
-// call for the arcs of a companion, and a piece for a Reader that has ended throw Refused with the code
-// DNORM_WRONG_CALL. A call with a `dnorm_status &` throws no Refused, and sets that to the code of the call, which is
+// call for the arcs of a companion, for lines that were not kept, and a piece for a Reader that has ended throw Refused
+// with the code DNORM_WRONG_CALL. A call with a `dnorm_status &` throws no Refused, and sets that to the code of the call, which is
 // DNORM_MEMORY where the library has no memory.
 #ifndef DNORM_HPP
 #define DNORM_HPP
@@ -60,6 +61,10 @@ struct Descriptor {
     explicit Descriptor(int given) : number(given) {}
 };
 
+// Says that the arc lines of a text are kept beside its instance.
+struct WithLines {};
+inline constexpr WithLines with_lines{};
+
 namespace detail {
 
 // Owns what a `dnorm` owns.
@@ -82,6 +87,30 @@ private:
     dnorm_handle raw = DNORM_NONE;
 };
 
+// Owns arc lines, if they are kept.
+class Lines {
+public:
+    explicit Lines(bool keeps = false) : is_kept(keeps) {}
+    Lines(Lines &&other) noexcept
+        : raw(std::exchange(other.raw, DNORM_NO_LINES)), is_kept(std::exchange(other.is_kept, false)) {}
+    Lines &operator=(Lines &&other) noexcept {
+        Lines taken(std::move(other));
+        std::swap(raw, taken.raw);
+        std::swap(is_kept, taken.is_kept);
+        return *this;
+    }
+    Lines(const Lines &) = delete;
+    Lines &operator=(const Lines &) = delete;
+    ~Lines() { dnorm_arc_lines_free(&raw); }
+    // Null if they are not kept.
+    dnorm_arc_lines *get() noexcept { return is_kept ? &raw : nullptr; }
+    const dnorm_arc_lines *get() const noexcept { return is_kept ? &raw : nullptr; }
+
+private:
+    dnorm_arc_lines raw = DNORM_NO_LINES;
+    bool is_kept;
+};
+
 inline void fine(dnorm_status status) {
     if (status.code == DNORM_MEMORY) throw std::bad_alloc();
     if (status.code != DNORM_FINE) throw Refused(status);
@@ -101,20 +130,16 @@ inline std::size_t counted(dnorm_count found) {
 inline std::uint8_t form_of(int form) noexcept { return form == 2 ? 2 : 1; }
 
 // The functions that copy columns of these numbers.
-inline dnorm_count copy(const dnorm_handle *graph, int form, std::vector<std::int64_t> &tails,
-                        std::vector<std::int64_t> &heads, std::vector<std::int64_t> &a, std::vector<std::int64_t> &b,
-                        std::vector<std::int64_t> &c) {
+inline dnorm_count copy(const dnorm_handle *graph, int form, dnorm_arc_columns out, std::size_t room) {
     dnorm_place place = DNORM_FIRST;
-    return dnorm_columns(graph, form_of(form), &place, tails.data(), tails.size(), heads.data(), heads.size(), a.data(),
-                         a.size(), b.data(), b.size(), c.data(), c.size());
+    return dnorm_columns(graph, form_of(form), &place, out, room);
 }
-inline dnorm_count copy(const dnorm_handle *graph, int form, std::vector<std::int32_t> &tails,
-                        std::vector<std::int32_t> &heads, std::vector<std::int32_t> &a, std::vector<std::int32_t> &b,
-                        std::vector<std::int32_t> &c) {
+inline dnorm_count copy(const dnorm_handle *graph, int form, dnorm_arc_columns_32 out, std::size_t room) {
     dnorm_place place = DNORM_FIRST;
-    return dnorm_columns_32(graph, form_of(form), &place, tails.data(), tails.size(), heads.data(), heads.size(),
-                            a.data(), a.size(), b.data(), b.size(), c.data(), c.size());
+    return dnorm_columns_32(graph, form_of(form), &place, out, room);
 }
+template <typename Number>
+using Out = std::conditional_t<std::is_same_v<Number, std::int32_t>, dnorm_arc_columns_32, dnorm_arc_columns>;
 
 } // namespace detail
 
@@ -130,10 +155,28 @@ using Columns32 = ColumnsOf<std::int32_t>;
 
 // Canonical arcs by their tails, a forward star. The arcs of node v, counted from 1, have the indexes from first[v - 1]
 // to first[v], without the last one.
-struct Star {
-    std::vector<std::size_t> first;
-    std::vector<std::int64_t> heads, a, b, c;
+template <typename Index, typename Number> struct StarOf : ColumnsOf<Number> {
+    std::vector<Index> first;
+    // Empty before reverse(). The arcs with the head v have the indexes into[i], which ascend, for each i from
+    // into_first[v - 1] to into_first[v], without the last one.
+    std::vector<Index> into_first, into;
+
+    // Finds the arcs into each node.
+    void reverse() {
+        const std::vector<Number> &all = this->heads;
+        into_first.assign(first.size(), 0);
+        into.resize(all.size());
+        for (Number head : all) into_first[static_cast<std::size_t>(head)]++;
+        for (std::size_t v = 1; v < into_first.size(); v++) into_first[v] += into_first[v - 1];
+        // Each list is filled from its end, so that its beginning is known at last.
+        for (std::size_t at = all.size(); at-- > 0;)
+            into[static_cast<std::size_t>(--into_first[static_cast<std::size_t>(all[at])])] = static_cast<Index>(at);
+        into_first.erase(into_first.begin());
+        into_first.push_back(static_cast<Index>(all.size()));
+    }
 };
+using Star = StarOf<std::size_t, std::int64_t>;
+using Star32 = StarOf<std::int32_t, std::int32_t>;
 
 // A parsed instance.
 class Instance {
@@ -141,25 +184,44 @@ public:
     // Reads a text to the end of a stream. Throws Refused, std::bad_alloc, or std::ios_base::failure if the stream
     // fails, or has failed before, as one that could not be opened. Its state does not change, so that no exceptions()
     // are thrown at the end of the text.
-    explicit Instance(std::istream &source);
+    explicit Instance(std::istream &source) : Instance(source, false) {}
+    Instance(std::istream &source, WithLines) : Instance(source, true) {}
 
     // Reads a text. Throws Refused or std::bad_alloc.
-    explicit Instance(std::string_view text);
+    explicit Instance(std::string_view text) : Instance(text, false) {}
+    Instance(std::string_view text, WithLines) : Instance(text, true) {}
 
     // Reads a file to its end: Instance graph{Path(name)}. Throws Refused, std::bad_alloc, or std::system_error if it
     // cannot be read.
-    explicit Instance(const Path &file) { done(read_file(handle, file), file.name.c_str()); }
-    explicit Instance(const Descriptor &file) { done(read_file(handle, file), "a file descriptor"); }
+    explicit Instance(const Path &file) { done(read_file(file), file.name.c_str()); }
+    Instance(const Path &file, WithLines) : kept(true) { done(read_file(file), file.name.c_str()); }
+    explicit Instance(const Descriptor &file) { done(read_file(file), "a file descriptor"); }
+    Instance(const Descriptor &file, WithLines) : kept(true) { done(read_file(file), "a file descriptor"); }
 
     // A text is a std::string_view, and the name of a file is a Path: a string could be either.
     template <typename Other, typename = std::enable_if_t<std::is_convertible_v<const Other &, std::string_view>>>
     explicit Instance(const Other &) = delete;
+    template <typename Other, typename = std::enable_if_t<std::is_convertible_v<const Other &, std::string_view>>>
+    Instance(const Other &, WithLines) = delete;
 
     // Reads a text to its end. There is no instance if the text is refused; or if the file fails, where the code is
     // DNORM_READ, and errno has the cause. A stream that fails throws std::ios_base::failure.
-    static std::optional<Instance> read(std::istream &source, dnorm_status &status);
-    static std::optional<Instance> read(const Path &file, dnorm_status &status) { return from(file, status); }
-    static std::optional<Instance> read(const Descriptor &file, dnorm_status &status) { return from(file, status); }
+    static std::optional<Instance> read(std::istream &source, dnorm_status &status) {
+        return from_stream(source, false, status);
+    }
+    static std::optional<Instance> read(std::istream &source, WithLines, dnorm_status &status) {
+        return from_stream(source, true, status);
+    }
+    static std::optional<Instance> read(const Path &file, dnorm_status &status) { return from(file, false, status); }
+    static std::optional<Instance> read(const Path &file, WithLines, dnorm_status &status) {
+        return from(file, true, status);
+    }
+    static std::optional<Instance> read(const Descriptor &file, dnorm_status &status) {
+        return from(file, false, status);
+    }
+    static std::optional<Instance> read(const Descriptor &file, WithLines, dnorm_status &status) {
+        return from(file, true, status);
+    }
 
     // Returns what the instance is.
     dnorm_summary facts() const {
@@ -200,16 +262,25 @@ public:
 
     // Returns them by their tails. The star has NODES + 1 numbers, and a text can declare any NODES: throws
     // std::bad_alloc if there is no memory for so many.
-    Star star(int form = 1) const {
-        Star made;
-        size(form, made.heads, made.a, made.b, made.c);
-        const std::size_t nodes = static_cast<std::size_t>(facts().nodes);
-        if (nodes >= made.first.max_size()) throw std::bad_alloc();
-        made.first.resize(nodes + 1);
-        detail::counted(dnorm_first_arcs(handle.get(), detail::form_of(form), made.first.data(), nodes + 1));
-        std::vector<std::int64_t> no_tails;
-        detail::counted(detail::copy(handle.get(), form, no_tails, made.heads, made.a, made.b, made.c));
-        return made;
+    Star star(int form = 1) const { return star_of<Star>(form); }
+
+    // Returns them by their tails, with numbers of 32 bits. Throws std::range_error if one does not fit.
+    Star32 star_32(int form = 1) const { return star_of<Star32>(form); }
+
+    // Returns the arc lines of the text, in its order.
+    std::vector<dnorm_row> lines() const {
+        detail::answered(kept.get() != nullptr);
+        return {kept.get()->rows, kept.get()->rows + kept.get()->count};
+    }
+
+    // Puts a flow on the canonical arcs in form 1 or 2 back on the arc lines, as dnorm_spread does: returns the units of
+    // each line. Throws Refused with DNORM_NOT_A_FLOW if it is no flow on the lines.
+    std::vector<std::int64_t> spread(const std::vector<std::int64_t> &flow, int form = 1) const {
+        detail::answered(kept.get() != nullptr);
+        std::vector<std::int64_t> units(kept.get()->count);
+        detail::fine(dnorm_spread(handle.get(), detail::form_of(form), flow.data(), flow.size(), kept.get(),
+                                  units.data()));
+        return units;
     }
 
     // Returns what the instance has beside its arcs.
@@ -257,48 +328,71 @@ public:
 private:
     friend class Reader;
     detail::Handle handle;
+    detail::Lines kept;
 
-    explicit Instance(detail::Handle &&made) noexcept : handle(std::move(made)) {}
+    Instance(detail::Handle &&made, detail::Lines &&lines) noexcept : handle(std::move(made)), kept(std::move(lines)) {}
+    Instance(std::istream &source, bool keeps_lines);
+    Instance(std::string_view text, bool keeps_lines);
 
-    template <typename File> static std::optional<Instance> from(const File &file, dnorm_status &status) {
-        detail::Handle made;
-        status = read_file(made, file);
+    static std::optional<Instance> from_stream(std::istream &source, bool keeps_lines, dnorm_status &status);
+
+    template <typename File>
+    static std::optional<Instance> from(const File &file, bool keeps_lines, dnorm_status &status) {
+        Instance made{detail::Handle(), detail::Lines(keeps_lines)};
+        status = made.read_file(file);
         if (status.code != DNORM_FINE) return std::nullopt;
-        return Instance(std::move(made));
+        return made;
     }
 
-    static dnorm_status read_file(detail::Handle &made, const Path &file) {
+    dnorm_status read_file(const Path &file) {
         // The system would open the file whose name is the part before a byte 0.
-        if (file.name.find('\0') == std::string::npos) return dnorm_read_path(made.get(), file.name.c_str());
+        if (file.name.find('\0') == std::string::npos)
+            return dnorm_read_lines_path(handle.get(), kept.get(), file.name.c_str());
         errno = EINVAL;
         return dnorm_status{DNORM_READ, DNORM_NO_PLACE, 0};
     }
-    static dnorm_status read_file(detail::Handle &made, const Descriptor &file) {
-        return dnorm_read_fd(made.get(), file.number);
+    dnorm_status read_file(const Descriptor &file) {
+        return dnorm_read_lines_fd(handle.get(), kept.get(), file.number);
     }
     static void done(dnorm_status status, const char *name) {
         if (status.code == DNORM_READ) throw std::system_error(errno, std::generic_category(), name);
         detail::fine(status);
     }
 
-    // Gives the columns that the kind has room for all arcs.
-    template <typename Number>
-    void size(int form, std::vector<Number> &heads, std::vector<Number> &a, std::vector<Number> &b,
-              std::vector<Number> &c) const {
-        const std::size_t count = arc_count(form);
-        heads.resize(count);
-        a.resize(count);
-        b.resize(facts().kind == DNORM_MIN ? count : 0);
-        c.resize(b.size());
+    // Copies all arcs to the columns that the kind has.
+    template <typename Number> void copy_to(ColumnsOf<Number> &made, int form) const {
+        const std::size_t count = arc_count(form), more = facts().kind == DNORM_MIN ? count : 0;
+        made.tails.resize(count);
+        made.heads.resize(count);
+        made.a.resize(count);
+        made.b.resize(more);
+        made.c.resize(more);
+        const detail::Out<Number> out = {made.tails.data(), made.heads.data(), made.a.data(),
+                                         more ? made.b.data() : nullptr, more ? made.c.data() : nullptr};
+        const dnorm_count found = detail::copy(handle.get(), form, out, count);
+        if (found.code == DNORM_TOO_WIDE) throw std::range_error(dnorm_code_sentence(found.code));
+        detail::counted(found);
     }
 
     template <typename Number> ColumnsOf<Number> columns_of(int form) const {
         ColumnsOf<Number> made;
-        size(form, made.heads, made.a, made.b, made.c);
-        made.tails.resize(made.heads.size());
-        dnorm_count found = detail::copy(handle.get(), form, made.tails, made.heads, made.a, made.b, made.c);
-        if (found.code == DNORM_TOO_WIDE) throw std::range_error(dnorm_code_sentence(found.code));
-        detail::counted(found);
+        copy_to(made, form);
+        return made;
+    }
+
+    template <typename Made> Made star_of(int form) const {
+        Made made;
+        using Index = typename decltype(made.first)::value_type;
+        copy_to(made, form);
+        const std::uint64_t nodes = static_cast<std::uint64_t>(facts().nodes);
+        if (nodes >= made.first.max_size()) throw std::bad_alloc();
+        if (std::is_same_v<Made, Star32> && (nodes > INT32_MAX || made.tails.size() > INT32_MAX))
+            throw std::range_error(dnorm_code_sentence(DNORM_TOO_WIDE));
+        made.first.reserve(static_cast<std::size_t>(nodes) + 1);
+        for (std::size_t v = 0, at = 0; v <= nodes; v++) {
+            while (at < made.tails.size() && static_cast<std::uint64_t>(made.tails[at]) <= v) at++;
+            made.first.push_back(static_cast<Index>(at));
+        }
         return made;
     }
 };
@@ -307,7 +401,8 @@ private:
 class Reader {
 public:
     // Begins a text. Throws std::bad_alloc.
-    Reader() { detail::fine(dnorm_begin(handle.get())); }
+    Reader() : Reader(false) {}
+    explicit Reader(WithLines) : Reader(true) {}
 
     // Feeds the next piece. Throws Refused as soon as a line has a fault, or std::bad_alloc.
     void feed(std::string_view piece) {
@@ -316,7 +411,9 @@ public:
         detail::fine(status);
     }
     void feed(std::string_view piece, dnorm_status &status) noexcept {
-        status = dnorm_feed(handle.get(), reinterpret_cast<const std::uint8_t *>(piece.data()), piece.size());
+        const auto *bytes = reinterpret_cast<const std::uint8_t *>(piece.data());
+        status = dnorm_feed(handle.get(), bytes, piece.size());
+        if (status.code == DNORM_FINE) feed_lines(bytes, piece.size(), status);
     }
 
     // Returns what the problem line declares, once it was read; before, the kind is DNORM_NO_KIND.
@@ -324,22 +421,40 @@ public:
 
     // Ends the text. Throws Refused or std::bad_alloc. The reader then takes no other text.
     Instance finish() {
-        detail::fine(dnorm_finish(handle.get()));
-        return Instance(std::move(handle));
+        dnorm_status status;
+        std::optional<Instance> made = finish(status);
+        detail::fine(status);
+        return std::move(*made);
     }
     std::optional<Instance> finish(dnorm_status &status) noexcept {
+        const std::uint8_t lf = '\n';
         status = dnorm_finish(handle.get());
+        if (status.code == DNORM_FINE) feed_lines(&lf, 1, status);
         if (status.code != DNORM_FINE) return std::nullopt;
-        return Instance(std::move(handle));
+        return Instance(std::move(handle), std::move(kept));
     }
 
 private:
-    detail::Handle handle;
+    friend class Instance;
+    detail::Handle handle, reader;
+    detail::Lines kept;
+
+    explicit Reader(bool keeps_lines) : kept(keeps_lines) {
+        detail::fine(dnorm_begin(handle.get()));
+        if (keeps_lines) detail::fine(dnorm_lines_begin(reader.get()));
+    }
+
+    // Feeds what the reader of the instance has taken to that of arc lines. Without memory for these it takes no more.
+    void feed_lines(const std::uint8_t *bytes, std::size_t length, dnorm_status &status) noexcept {
+        if (!kept.get() || dnorm_inline_feed_lines(reader.get(), kept.get(), bytes, length)) return;
+        handle = detail::Handle();
+        status = dnorm_status{DNORM_MEMORY, DNORM_NO_PLACE, 0};
+    }
 };
 
-inline std::optional<Instance> Instance::read(std::istream &source, dnorm_status &status) {
+inline std::optional<Instance> Instance::from_stream(std::istream &source, bool keeps_lines, dnorm_status &status) {
     std::vector<char> room(65536);
-    Reader reader;
+    Reader reader(keeps_lines);
     // The caller's stream may throw at its end, so another one takes its bytes: none of a stream that has failed.
     std::istream bytes(source.fail() ? nullptr : source.rdbuf());
     bytes.tie(source.tie());
@@ -354,17 +469,17 @@ inline std::optional<Instance> Instance::read(std::istream &source, dnorm_status
     return reader.finish(status);
 }
 
-inline Instance::Instance(std::istream &source) {
+inline Instance::Instance(std::istream &source, bool keeps_lines) {
     dnorm_status status;
-    std::optional<Instance> found = read(source, status);
+    std::optional<Instance> found = from_stream(source, keeps_lines, status);
     detail::fine(status);
-    handle = std::move(found->handle);
+    *this = std::move(*found);
 }
 
-inline Instance::Instance(std::string_view text) {
-    Reader reader;
+inline Instance::Instance(std::string_view text, bool keeps_lines) {
+    Reader reader(keeps_lines);
     reader.feed(text);
-    handle = std::move(reader.finish().handle);
+    *this = reader.finish();
 }
 
 // Writes a text of this kind with these items and arcs in their order, as items() and arcs() return them: nodes and
@@ -380,6 +495,15 @@ inline void write(std::ostream &out, std::uint8_t kind, std::int64_t nodes, cons
     for (const dnorm_item &it : items) out.write(line, dnorm_item_line(kind, it, line));
     for (std::size_t i = 0; is_graph && i < arcs.size(); i++) out.write(line, dnorm_arc_line(kind, arcs[i], line));
     if (!out.flush()) throw std::ios_base::failure("the text cannot be written");
+}
+
+// Writes the units of each arc line, `f TAIL HEAD UNITS`, in the order of the text. Throws std::ios_base::failure if the
+// stream does not take all of it.
+inline void write_flow(std::ostream &out, const std::vector<dnorm_row> &lines,
+                       const std::vector<std::int64_t> &units) {
+    for (std::size_t i = 0; i < lines.size(); i++)
+        out << "f " << lines[i].tail << ' ' << lines[i].head << ' ' << units.at(i) << '\n';
+    if (!out.flush()) throw std::ios_base::failure("the flow cannot be written");
 }
 
 } // namespace dnorm_cpp

@@ -1,5 +1,5 @@
 /* The number, name and sentence of each refusal in `dnorm help`, each as an argument list of ROW.
-   `tools/refusals --write` makes this file. */
+   `tools/lists --write` makes this file. */
 #ifndef DNORM_CODES_H
 #define DNORM_CODES_H
 #define DNORM_CODES(ROW) \

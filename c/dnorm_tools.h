@@ -1,9 +1,16 @@
 /* dnorm_tools.h: what programs in C need around dnorm.h. Its functions are inline, and are tested, but not proved.
 
-       dnorm_code_name, dnorm_code_sentence, dnorm_status_line     what a code or a status means, in words
+       dnorm_code_name, dnorm_code_sentence, dnorm_kind_name,
+       dnorm_status_line                                           what a code, a kind or a status means, in words
        dnorm_read_fd, dnorm_read_file, dnorm_read_path             read a text to its end
+       dnorm_read_lines_fd, dnorm_read_lines_file,
+       dnorm_read_lines_path, dnorm_arc_lines_free                 read it with its arc lines
+       dnorm_spread, dnorm_write_flow                              put a flow on the arc lines, and write it
        dnorm_columns_32                                            copies arcs to columns of 32 bits
-       dnorm_first_arcs, dnorm_star_make, dnorm_star_free          find the arcs of each node (a forward star)
+       dnorm_first_arcs                                            finds the arcs of each node
+       dnorm_star_make, dnorm_star_reverse, dnorm_star_free        make a forward star, and the arcs into each node
+       dnorm_star_32_make, dnorm_star_32_reverse,
+       dnorm_star_32_free                                          the same of 32 bits
        dnorm_write, dnorm_problem_line, dnorm_item_line,
        dnorm_arc_line                                              write a text of items and arcs
 
@@ -24,8 +31,13 @@
 enum {
     /* A file could not be opened, or reading it failed; errno has the cause. */
     DNORM_READ = 31,
+    /* DNORM_READS reads of a file returned bytes, and no end came. */
+    DNORM_ENDLESS = 32,
     /* A number does not fit 32 bits. */
-    DNORM_TOO_WIDE = 41
+    DNORM_TOO_WIDE = 41,
+    /* The units of a pair are not between the sums of its lower bounds and of its capacities, or arcs and arc lines are
+       not of one text. */
+    DNORM_NOT_A_FLOW = 42
 };
 
 /* Converts a number, or what malloc returns, as C and C++ do it. */
@@ -35,9 +47,11 @@ enum {
 #define DNORM_AS(type, value) ((type)(value))
 #endif
 
-/* How many bytes are read at a time, and how many arcs are copied at a time. */
+/* How many bytes are read at a time, and after how many reads a file has no end. */
 #define DNORM_PIECE 16384
-#define DNORM_SOME 512
+#ifndef DNORM_READS
+#define DNORM_READS (UINT64_C(1) << 40)
+#endif
 /* Room for each line that is written. */
 #define DNORM_LINE 128
 
@@ -45,7 +59,8 @@ enum {
 #define DNORM_OTHER_CODES(ROW) \
     ROW(DNORM_FINE, "Fine", "The call did what it is for.") \
     ROW(DNORM_WRONG_CALL, "WrongCall", "The handle is not for this call.") \
-    ROW(DNORM_TOO_WIDE, "TooWide", "A number does not fit 32 bits.")
+    ROW(DNORM_TOO_WIDE, "TooWide", "A number does not fit 32 bits.") \
+    ROW(DNORM_NOT_A_FLOW, "NotAFlow", "The units of a pair are not between its lower bounds and capacities.")
 
 /* Returns the name of a code, which is "Unknown" for a number that is none. */
 DNORM_INLINE const char *dnorm_code_name(uint8_t code) {
@@ -71,6 +86,12 @@ DNORM_INLINE const char *dnorm_code_sentence(uint8_t code) {
 #undef DNORM_ROW
 }
 
+/* Returns the name of a kind, as problem lines have it. It is empty for a number that is none. */
+DNORM_INLINE const char *dnorm_kind_name(uint8_t kind) {
+    const char *const names[] = {"", "min", "max", "sp", "ss", "p2p", "co"};
+    return kind <= DNORM_CO ? names[kind] : "";
+}
+
 /* Writes what a status means to `out` as snprintf does, and returns the length of the whole line:
    `line 2: 13 NodeOutOfRange: A node is not in 1 to NODES; in a companion, below 1.`, or with `end: ` at the end of a
    text, or without a place. For a dnorm_count, give it a status with the same code and no place. */
@@ -81,35 +102,125 @@ DNORM_INLINE int dnorm_status_line(dnorm_status status, char *out, size_t room) 
     return snprintf(out, room, "%s%d %s: %s", status.place == DNORM_AT_END ? "end: " : "", status.code, name, sentence);
 }
 
-/* Frees a reader whose file failed, and returns the status of this. */
-DNORM_INLINE dnorm_status dnorm_inline_failed(dnorm_handle *reader) {
-    const dnorm_status failed = {DNORM_READ, DNORM_NO_PLACE, 0};
-    const int cause = errno;
-    dnorm_free(reader);
-    errno = cause;
-    return failed;
+/* The arc lines of a text, in its order, in memory of malloc. */
+typedef struct dnorm_arc_lines {
+    dnorm_row *rows;
+    /* How many there are, and for how many there is room. */
+    size_t count, room;
+} dnorm_arc_lines;
+
+/* The first value of a dnorm_arc_lines, which owns nothing. */
+#define DNORM_NO_LINES {NULL, 0, 0}
+
+/* Frees what arc lines own. They then own nothing. */
+DNORM_INLINE void dnorm_arc_lines_free(dnorm_arc_lines *lines) {
+    const dnorm_arc_lines none = DNORM_NO_LINES;
+    free(lines->rows);
+    *lines = none;
 }
 
-/* Reads a text from a file descriptor to its end, and makes the instance in `graph`, which owns nothing before. If the
-   text is refused, `graph` owns the refusal. A read that a signal interrupts is repeated.
-   Codes: those of dnorm_begin and dnorm_finish; DNORM_READ if a read fails, and `graph` owns nothing. */
-DNORM_INLINE dnorm_status dnorm_read_fd(dnorm_handle *graph, int fd) {
-    uint8_t bytes[DNORM_PIECE];
-    ssize_t length = 1;
-    dnorm_status status = dnorm_begin(graph);
-    if (status.code != DNORM_FINE) return status;
-    while (status.code == DNORM_FINE && length != 0) {
-        length = read(fd, bytes, sizeof bytes);
-        if (length > 0) status = dnorm_feed(graph, bytes, DNORM_AS(size_t, length));
-        else if (length < 0 && errno != EINTR) return dnorm_inline_failed(graph);
+/* Feeds a piece that dnorm_feed has taken to a reader of arc lines. A line with a fault by itself was refused before.
+   Returns whether there is memory for the lines. */
+DNORM_INLINE bool dnorm_inline_feed_lines(dnorm_handle *reader, dnorm_arc_lines *lines, const uint8_t *bytes,
+                                          size_t length) {
+    while (length > 0) {
+        dnorm_lines_given given;
+        if (lines->count == lines->room) {
+            const size_t room = 2 * lines->room + DNORM_SOME;
+            const bool fits = room < SIZE_MAX / sizeof(dnorm_row);
+            void *const rows = fits ? realloc(lines->rows, room * sizeof(dnorm_row)) : NULL;
+            if (!rows) return false;
+            lines->rows = DNORM_AS(dnorm_row *, rows);
+            lines->room = room;
+        }
+        given = dnorm_lines(reader, bytes, length, lines->rows + lines->count, lines->room - lines->count);
+        if (given.code != DNORM_FINE) break;
+        lines->count += given.count;
+        bytes += given.used;
+        length -= given.used;
     }
-    return dnorm_finish(graph);
+    return true;
 }
 
-/* Reads a text from a stream to its end, as dnorm_read_fd does. */
-DNORM_INLINE dnorm_status dnorm_read_file(dnorm_handle *graph, FILE *file) {
-    uint8_t bytes[DNORM_PIECE];
+/* Two readers that are fed the same pieces: of an instance, and of arc lines where these are wanted. */
+typedef struct dnorm_inline_readers {
+    dnorm_handle *graph;
+    dnorm_handle reader;
+    dnorm_arc_lines *lines;
+    uint64_t reads;
+} dnorm_inline_readers;
+
+DNORM_INLINE dnorm_status dnorm_inline_begin(dnorm_inline_readers *both, dnorm_handle *graph, dnorm_arc_lines *lines) {
+    const dnorm_inline_readers begun = {graph, DNORM_NONE, lines, 0};
     dnorm_status status = dnorm_begin(graph);
+    *both = begun;
+    if (lines && status.code == DNORM_FINE) {
+        status = dnorm_lines_begin(&both->reader);
+        if (status.code != DNORM_FINE) dnorm_free(graph);
+    }
+    return status;
+}
+
+/* Frees both readers, sets a code, and leaves errno as it is. */
+DNORM_INLINE void dnorm_inline_fail(dnorm_inline_readers *both, dnorm_status *status, uint8_t code) {
+    const dnorm_status failed = {code, DNORM_NO_PLACE, 0};
+    const int cause = errno;
+    dnorm_free(both->graph);
+    dnorm_free(&both->reader);
+    if (both->lines) dnorm_arc_lines_free(both->lines);
+    *status = failed;
+    errno = cause;
+}
+
+/* Feeds a piece to both. Returns whether they take another one. */
+DNORM_INLINE bool dnorm_inline_both(dnorm_inline_readers *both, dnorm_status *status, const uint8_t *bytes,
+                                    size_t length) {
+    *status = dnorm_feed(both->graph, bytes, length);
+    if (status->code != DNORM_FINE) return false;
+    if (both->lines && !dnorm_inline_feed_lines(&both->reader, both->lines, bytes, length))
+        dnorm_inline_fail(both, status, DNORM_MEMORY);
+    else if (length > 0 && ++both->reads >= DNORM_READS)
+        dnorm_inline_fail(both, status, DNORM_ENDLESS);
+    return status->code == DNORM_FINE;
+}
+
+/* Ends both, unless they have failed. */
+DNORM_INLINE dnorm_status dnorm_inline_finish(dnorm_inline_readers *both, dnorm_status status) {
+    const uint8_t lf = '\n';
+    if (!both->graph->full) return status;
+    status = dnorm_finish(both->graph);
+    if (both->lines && status.code == DNORM_FINE && !dnorm_inline_feed_lines(&both->reader, both->lines, &lf, 1))
+        dnorm_inline_fail(both, &status, DNORM_MEMORY);
+    dnorm_free(&both->reader);
+    if (both->lines && status.code != DNORM_FINE) dnorm_arc_lines_free(both->lines);
+    return status;
+}
+
+/* Reads a text and its arc lines from a file descriptor to its end, as dnorm_read_fd does: both readers are fed the
+   same bytes. `lines` owns nothing before, and nothing after any code but DNORM_FINE; dnorm_arc_lines_free frees it. */
+DNORM_INLINE dnorm_status dnorm_read_lines_fd(dnorm_handle *graph, dnorm_arc_lines *lines, int fd) {
+    uint8_t bytes[DNORM_PIECE];
+    dnorm_inline_readers both;
+    dnorm_status status = dnorm_inline_begin(&both, graph, lines);
+    bool goes_on = status.code == DNORM_FINE;
+    if (!goes_on) return status;
+    while (goes_on) {
+        const ssize_t length = read(fd, bytes, sizeof bytes);
+        if (length > 0) goes_on = dnorm_inline_both(&both, &status, bytes, DNORM_AS(size_t, length));
+        else if (length == 0) goes_on = false;
+        else if (errno != EINTR) {
+            dnorm_inline_fail(&both, &status, DNORM_READ);
+            goes_on = false;
+        }
+    }
+    return dnorm_inline_finish(&both, status);
+}
+
+/* Reads a text and its arc lines from a stream to its end, as dnorm_read_lines_fd does. */
+DNORM_INLINE dnorm_status dnorm_read_lines_file(dnorm_handle *graph, dnorm_arc_lines *lines, FILE *file) {
+    uint8_t bytes[DNORM_PIECE];
+    dnorm_inline_readers both;
+    dnorm_status status = dnorm_inline_begin(&both, graph, lines);
     bool goes_on = status.code == DNORM_FINE;
     if (!goes_on) return status;
     while (goes_on) {
@@ -118,14 +229,14 @@ DNORM_INLINE dnorm_status dnorm_read_file(dnorm_handle *graph, FILE *file) {
         const bool has_failed = ferror(file) != 0, is_interrupted = has_failed && cause == EINTR;
         if (is_interrupted) clearerr(file);
         /* A fault before a failure counts. */
-        status = dnorm_feed(graph, bytes, length);
-        goes_on = status.code == DNORM_FINE && (is_interrupted || length == sizeof bytes);
-        if (status.code == DNORM_FINE && has_failed && !is_interrupted) {
+        goes_on = dnorm_inline_both(&both, &status, bytes, length);
+        if (goes_on && has_failed && !is_interrupted) {
             errno = cause;
-            return dnorm_inline_failed(graph);
+            dnorm_inline_fail(&both, &status, DNORM_READ);
         }
+        goes_on = goes_on && !(has_failed && !is_interrupted) && (is_interrupted || length == sizeof bytes);
     }
-    return dnorm_finish(graph);
+    return dnorm_inline_finish(&both, status);
 }
 
 /* How a file is opened: programs that another thread starts meanwhile do not get it, where the system can say so. */
@@ -135,61 +246,181 @@ DNORM_INLINE dnorm_status dnorm_read_file(dnorm_handle *graph, FILE *file) {
 #define DNORM_OPEN O_RDONLY
 #endif
 
-/* Reads the text in the file of this name, as dnorm_read_fd does.
+/* Reads the text in the file of this name and its arc lines, as dnorm_read_lines_fd does.
    Codes: also DNORM_READ if the file cannot be opened. */
-DNORM_INLINE dnorm_status dnorm_read_path(dnorm_handle *graph, const char *path) {
+DNORM_INLINE dnorm_status dnorm_read_lines_path(dnorm_handle *graph, dnorm_arc_lines *lines, const char *path) {
     const dnorm_status failed = {DNORM_READ, DNORM_NO_PLACE, 0};
     int fd, cause;
     dnorm_status status;
     do fd = open(path, DNORM_OPEN);
     while (fd < 0 && errno == EINTR);
     if (fd < 0) return failed;
-    status = dnorm_read_fd(graph, fd);
+    status = dnorm_read_lines_fd(graph, lines, fd);
     cause = errno;
     close(fd);
     errno = cause;
     return status;
 }
 
-/* Copies numbers to a column of 32 bits, as far as it has room. Returns how many of all are before the first one that
-   does not fit. */
-DNORM_INLINE size_t dnorm_inline_narrow(const int64_t *numbers, size_t count, int32_t *column, size_t room) {
-    for (size_t i = 0; i < count && i < room; i++) {
-        if (numbers[i] < INT32_MIN || numbers[i] > INT32_MAX) return i;
-        column[i] = DNORM_AS(int32_t, numbers[i]);
+/* Reads a text from a file descriptor to its end, and makes the instance in `graph`, which owns nothing before. If the
+   text is refused, `graph` owns the refusal. A read that a signal interrupts is repeated.
+   Codes: those of dnorm_begin and dnorm_finish; DNORM_READ if a read fails, DNORM_ENDLESS if no end comes, and `graph`
+   owns nothing. */
+DNORM_INLINE dnorm_status dnorm_read_fd(dnorm_handle *graph, int fd) { return dnorm_read_lines_fd(graph, NULL, fd); }
+
+/* Reads a text from a stream to its end, as dnorm_read_fd does. */
+DNORM_INLINE dnorm_status dnorm_read_file(dnorm_handle *graph, FILE *file) {
+    return dnorm_read_lines_file(graph, NULL, file);
+}
+
+/* Reads the text in the file of this name, as dnorm_read_fd does.
+   Codes: also DNORM_READ if the file cannot be opened. */
+DNORM_INLINE dnorm_status dnorm_read_path(dnorm_handle *graph, const char *path) {
+    return dnorm_read_lines_path(graph, NULL, path);
+}
+
+/* An arc line that dnorm_spread sorts: its nodes, the cost of a unit, its place among the lines, and its free units. */
+typedef struct dnorm_inline_line {
+    int64_t tail, head, cost, room;
+    size_t at;
+} dnorm_inline_line;
+
+/* Compares two of them: by tail, by head, by cost, and then by place. */
+DNORM_INLINE int dnorm_inline_by_cost(const void *left, const void *right) {
+    const dnorm_inline_line *const l = DNORM_AS(const dnorm_inline_line *, left);
+    const dnorm_inline_line *const r = DNORM_AS(const dnorm_inline_line *, right);
+    if (l->tail != r->tail) return l->tail < r->tail ? -1 : 1;
+    if (l->head != r->head) return l->head < r->head ? -1 : 1;
+    if (l->cost != r->cost) return l->cost < r->cost ? -1 : 1;
+    return l->at < r->at ? -1 : l->at > r->at;
+}
+
+/* Gives the lines of a pair, which begin at `sorted`, so many units beyond their lower bounds, the cheapest first.
+   Returns the line after them, or null if not all units have room. */
+DNORM_INLINE const dnorm_inline_line *dnorm_inline_give(const dnorm_inline_line *sorted, const dnorm_inline_line *end,
+                                                        int64_t units, int64_t *out) {
+    const dnorm_inline_line *it = sorted;
+    for (; it < end && it->tail == sorted->tail && it->head == sorted->head; it++) {
+        const int64_t some = units < it->room ? units : it->room;
+        out[it->at] += some;
+        units -= some;
     }
-    return count;
+    return units == 0 ? it : NULL;
+}
+
+/* Puts the flows of canonical arcs on sorted arc lines. Returns whether they are a flow on these. */
+DNORM_INLINE bool dnorm_inline_spread(const dnorm_handle *graph, uint8_t form, const int64_t *flow, size_t flow_count,
+                                      const dnorm_inline_line *sorted, const dnorm_inline_line *end, int64_t *units) {
+    dnorm_arc arcs[DNORM_SOME];
+    dnorm_place place = DNORM_FIRST;
+    size_t at = 0, count;
+    int64_t left = 0;
+    const dnorm_inline_line *it = sorted;
+    bool is_open = false;
+    dnorm_arc pair = {0, 0, 0, 0, 0};
+    do {
+        count = dnorm_next(graph, form, &place, arcs, DNORM_SOME).count;
+        for (size_t i = 0; i < count; i++, at++) {
+            const bool is_same = is_open && arcs[i].tail == pair.tail && arcs[i].head == pair.head;
+            if (at >= flow_count || flow[at] < 0) return false;
+            if (!is_same) {
+                if (is_open && (left < 0 || !(it = dnorm_inline_give(it, end, left, units)))) return false;
+                pair = arcs[i];
+                is_open = true;
+                /* The lines of pairs without canonical arcs have no units but their lower bounds. */
+                while (it < end && (it->tail < pair.tail || (it->tail == pair.tail && it->head < pair.head))) it++;
+                if (it == end || it->tail != pair.tail || it->head != pair.head) return false;
+                left = 0;
+                for (const dnorm_inline_line *of = it; of < end && of->tail == pair.tail && of->head == pair.head; of++)
+                    left -= units[of->at];
+            }
+            if (left > 0 && flow[at] > INT64_MAX - left) return false;
+            left += flow[at];
+        }
+    } while (count == DNORM_SOME);
+    if (is_open && (left < 0 || !dnorm_inline_give(it, end, left, units))) return false;
+    return at == flow_count;
+}
+
+/* Puts a flow on the canonical arcs of a graph, in form 1 or 2, back on the arc lines of its text: flow[i] is for the
+   arc i, counted from 0, in the order of dnorm_next, and units[i] becomes the flow of lines->rows[i]. The lines of a
+   pair share the flow of its arcs: in `min` each has its lower bound, and the rest goes to the cheapest, so that the
+   cost stays the same; in `max` the first ones are filled; in `sp` the first of the shortest has all.
+   Codes: DNORM_FINE; DNORM_NOT_A_FLOW, DNORM_MEMORY and DNORM_WRONG_CALL, and `units` may have changed. */
+DNORM_INLINE dnorm_status dnorm_spread(const dnorm_handle *graph, uint8_t form, const int64_t *flow, size_t flow_count,
+                                       const dnorm_arc_lines *lines, int64_t *units) {
+    const uint8_t kind = dnorm_facts(graph).kind;
+    const bool is_min = kind == DNORM_MIN, is_sp = kind == DNORM_SP;
+    dnorm_status status = {DNORM_FINE, DNORM_NO_PLACE, 0};
+    dnorm_inline_line *sorted;
+    if (kind == DNORM_NO_KIND || kind >= DNORM_SS) {
+        status.code = DNORM_WRONG_CALL;
+        return status;
+    }
+    sorted = DNORM_AS(dnorm_inline_line *, calloc(lines->count + 1, sizeof *sorted));
+    if (!sorted) {
+        status.code = DNORM_MEMORY;
+        return status;
+    }
+    for (size_t i = 0; i < lines->count; i++) {
+        const dnorm_row row = lines->rows[i];
+        const dnorm_inline_line it = {row.tail, row.head, is_min ? row.c : is_sp ? row.a : 0,
+                                      is_min ? row.b - row.a : is_sp ? INT64_MAX : row.a, i};
+        units[i] = is_min ? row.a : 0;
+        sorted[i] = it;
+    }
+    qsort(sorted, lines->count, sizeof *sorted, dnorm_inline_by_cost);
+    if (!dnorm_inline_spread(graph, form, flow, flow_count, sorted, sorted + lines->count, units))
+        status.code = DNORM_NOT_A_FLOW;
+    free(sorted);
+    return status;
+}
+
+/* Writes the units of each arc line to a stream, `f TAIL HEAD UNITS`, in the order of the text. Returns whether the
+   stream took all of it; if not, errno has the cause. */
+DNORM_INLINE bool dnorm_write_flow(FILE *out, const dnorm_arc_lines *lines, const int64_t *units) {
+    for (size_t i = 0; i < lines->count; i++)
+        fprintf(out, "f %" PRId64 " %" PRId64 " %" PRId64 "\n", lines->rows[i].tail, lines->rows[i].head, units[i]);
+    return fflush(out) == 0 && !ferror(out);
+}
+
+/* Columns of 32 bits for canonical arcs, as dnorm_arc_columns. */
+typedef struct dnorm_arc_columns_32 {
+    int32_t *tails, *heads, *a, *b, *c;
+} dnorm_arc_columns_32;
+
+/* Puts a number into a column of 32 bits, if that is wanted. Returns whether it fits. */
+DNORM_INLINE bool dnorm_inline_narrow(int32_t *column, size_t at, int64_t number) {
+    if (!column) return true;
+    column[at] = DNORM_AS(int32_t, number);
+    return column[at] == number;
 }
 
 /* Copies canonical arcs to columns as dnorm_columns does, with numbers of 32 bits. It stops before the first arc with a
-   number that does not fit its column, where that has room for it.
+   number that does not fit its column; what is in the columns behind the arcs before it may have changed.
    Codes: those of dnorm_columns; DNORM_TOO_WIDE at such an arc, and `count` arcs before it are copied. */
-DNORM_INLINE dnorm_count dnorm_columns_32(const dnorm_handle *graph, uint8_t form, dnorm_place *place, int32_t *tails,
-                                          size_t tails_room, int32_t *heads, size_t heads_room, int32_t *a,
-                                          size_t a_room, int32_t *b, size_t b_room, int32_t *c, size_t c_room) {
-    int32_t *const columns[] = {tails, heads, a, b, c};
-    const size_t rooms[] = {tails_room, heads_room, a_room, b_room, c_room};
-    int64_t wide[5][DNORM_SOME];
-    size_t most = 0, room, fit, i;
+DNORM_INLINE dnorm_count dnorm_columns_32(const dnorm_handle *graph, uint8_t form, dnorm_place *place,
+                                          dnorm_arc_columns_32 out, size_t room) {
+    dnorm_arc arcs[DNORM_SOME];
     dnorm_count made = {0, DNORM_FINE}, some;
-    for (i = 0; i < 5; i++) most = rooms[i] > most ? rooms[i] : most;
+    size_t wanted;
     do {
         const dnorm_place before = *place;
-        room = most - made.count < DNORM_SOME ? most - made.count : DNORM_SOME;
-        some = dnorm_columns(graph, form, place, wide[0], room, wide[1], room, wide[2], room, wide[3], room, wide[4],
-                             room);
-        fit = some.count;
-        for (i = 0; i < 5; i++)
-            if (rooms[i] > made.count)
-                fit = dnorm_inline_narrow(wide[i], fit, columns[i] + made.count, rooms[i] - made.count);
-        made.count += fit;
+        wanted = room - made.count < DNORM_SOME ? room - made.count : DNORM_SOME;
+        some = dnorm_next(graph, form, place, arcs, wanted);
         made.code = some.code;
-        if (fit < some.count) {
-            *place = before;
-            dnorm_columns(graph, form, place, wide[0], fit, NULL, 0, NULL, 0, NULL, 0, NULL, 0);
-            made.code = DNORM_TOO_WIDE;
-        }
-    } while (made.code == DNORM_FINE && some.count == room && made.count < most);
+        for (size_t i = 0; i < some.count; i++, made.count++)
+            if (!(dnorm_inline_narrow(out.tails, made.count, arcs[i].tail) &&
+                  dnorm_inline_narrow(out.heads, made.count, arcs[i].head) &&
+                  dnorm_inline_narrow(out.a, made.count, arcs[i].a) &&
+                  dnorm_inline_narrow(out.b, made.count, arcs[i].b) &&
+                  dnorm_inline_narrow(out.c, made.count, arcs[i].c))) {
+                *place = before;
+                dnorm_next(graph, form, place, arcs, i);
+                made.code = DNORM_TOO_WIDE;
+                return made;
+            }
+    } while (some.count == wanted && made.count < room);
     return made;
 }
 
@@ -198,17 +429,17 @@ DNORM_INLINE dnorm_count dnorm_columns_32(const dnorm_handle *graph, uint8_t for
    heads and numbers by dnorm_columns or dnorm_columns_32, these are a forward star.
    Codes: those of dnorm_columns. */
 DNORM_INLINE dnorm_count dnorm_first_arcs(const dnorm_handle *graph, uint8_t form, size_t *first, size_t room) {
-    int64_t tails[DNORM_SOME];
+    dnorm_arc some_arcs[DNORM_SOME];
     const uint64_t nodes = DNORM_AS(uint64_t, dnorm_facts(graph).nodes);
     const size_t wanted = nodes < room ? DNORM_AS(size_t, nodes) + 1 : room;
     size_t arcs = 0;
     dnorm_place place = DNORM_FIRST;
     dnorm_count made = {0, DNORM_FINE}, some;
     do {
-        some = dnorm_columns(graph, form, &place, tails, DNORM_SOME, NULL, 0, NULL, 0, NULL, 0, NULL, 0);
+        some = dnorm_next(graph, form, &place, some_arcs, DNORM_SOME);
         if (some.code != DNORM_FINE) return some;
         for (size_t i = 0; i < some.count; i++)
-            for (; made.count < wanted && made.count < DNORM_AS(uint64_t, tails[i]); made.count++)
+            for (; made.count < wanted && made.count < DNORM_AS(uint64_t, some_arcs[i].tail); made.count++)
                 first[made.count] = arcs + i;
         arcs += some.count;
     } while (some.count == DNORM_SOME);
@@ -216,63 +447,133 @@ DNORM_INLINE dnorm_count dnorm_first_arcs(const dnorm_handle *graph, uint8_t for
     return made;
 }
 
-/* The canonical arcs of a graph by their tails, a forward star. */
+/* The canonical arcs of a graph by their tails, a forward star: those with the tail v, counted from 1, have the indexes
+   from first[v - 1] to first[v], without the last one. */
 typedef struct dnorm_star {
     int64_t nodes;
     size_t arcs;
-    /* nodes + 1 numbers, as dnorm_first_arcs finds them. */
+    /* nodes + 1 numbers. */
     size_t *first;
     /* Columns of the arcs, as dnorm_columns copies them; b and c are null where the kind lacks them. */
-    int64_t *heads, *a, *b, *c;
+    int64_t *tails, *heads, *a, *b, *c;
+    /* Null before dnorm_star_reverse. The arcs with the head v have the indexes into[i], which ascend, for each i from
+       into_first[v - 1] to into_first[v], without the last one. */
+    size_t *into_first, *into;
 } dnorm_star;
 
-/* The first value of a dnorm_star, which owns nothing. */
-#define DNORM_NO_STAR {0, 0, NULL, NULL, NULL, NULL, NULL}
+/* The same with numbers of 32 bits. */
+typedef struct dnorm_star_32 {
+    int32_t nodes, arcs;
+    int32_t *first;
+    int32_t *tails, *heads, *a, *b, *c;
+    int32_t *into_first, *into;
+} dnorm_star_32;
 
-/* Frees what a forward star owns. It then owns nothing. */
-DNORM_INLINE void dnorm_star_free(dnorm_star *star) {
-    const dnorm_star none = DNORM_NO_STAR;
-    free(star->first);
-    free(star->heads);
-    free(star->a);
-    free(star->b);
-    free(star->c);
-    *star = none;
-}
+/* The first value of a dnorm_star or a dnorm_star_32, which owns nothing. */
+#define DNORM_NO_STAR {0, 0, NULL, NULL, NULL, NULL, NULL, NULL, NULL, NULL}
 
 /* Makes the forward star of a graph in form 1 or 2, in memory of malloc, which dnorm_star_free frees. It has NODES + 1
    numbers, and a text can declare any NODES: dnorm_facts tells how many before.
    Codes: DNORM_FINE; DNORM_MEMORY, DNORM_COUNT_TOO_LARGE and DNORM_WRONG_CALL, and `star` owns nothing. */
-DNORM_INLINE dnorm_status dnorm_star_make(const dnorm_handle *graph, uint8_t form, dnorm_star *star) {
-    const dnorm_summary facts = dnorm_facts(graph);
-    const dnorm_count arcs = dnorm_arc_count(graph, form);
-    const bool has_all = facts.kind == DNORM_MIN;
-    /* At least one number, since malloc may return null for none; without room for all, none. */
-    const size_t size = arcs.count < SIZE_MAX / sizeof(int64_t) ? arcs.count * sizeof(int64_t) + 1 : SIZE_MAX;
-    dnorm_star made = DNORM_NO_STAR;
-    dnorm_status status = {arcs.code, DNORM_NO_PLACE, 0};
-    dnorm_place place = DNORM_FIRST;
-    *star = made;
-    if (arcs.code != DNORM_FINE) return status;
-    made.nodes = facts.nodes;
-    made.arcs = arcs.count;
-    if (DNORM_AS(uint64_t, facts.nodes) < SIZE_MAX / sizeof(size_t))
-        made.first = DNORM_AS(size_t *, malloc((DNORM_AS(size_t, facts.nodes) + 1) * sizeof(size_t)));
-    made.heads = DNORM_AS(int64_t *, malloc(size));
-    made.a = DNORM_AS(int64_t *, malloc(size));
-    made.b = has_all ? DNORM_AS(int64_t *, malloc(size)) : NULL;
-    made.c = has_all ? DNORM_AS(int64_t *, malloc(size)) : NULL;
-    if (!made.first || !made.heads || !made.a || (has_all && (!made.b || !made.c))) {
-        dnorm_star_free(&made);
-        status.code = DNORM_MEMORY;
-        return status;
-    }
-    dnorm_first_arcs(graph, form, made.first, DNORM_AS(size_t, facts.nodes) + 1);
-    dnorm_columns(graph, form, &place, NULL, 0, made.heads, arcs.count, made.a, arcs.count, made.b,
-                  has_all ? arcs.count : 0, made.c, has_all ? arcs.count : 0);
-    *star = made;
-    return status;
+DNORM_INLINE dnorm_status dnorm_star_make(const dnorm_handle *graph, uint8_t form, dnorm_star *star);
+
+/* Finds the arcs into each node.
+   Codes: DNORM_FINE; DNORM_MEMORY, and `star` owns nothing. */
+DNORM_INLINE dnorm_status dnorm_star_reverse(dnorm_star *star);
+
+/* Frees what a forward star owns. It then owns nothing. */
+DNORM_INLINE void dnorm_star_free(dnorm_star *star);
+
+/* Makes a forward star of 32 bits, as dnorm_star_make does.
+   Codes: also DNORM_TOO_WIDE if NODES, the number of arcs, or a number of an arc is above 2^31-1, or below -2^31. */
+DNORM_INLINE dnorm_status dnorm_star_32_make(const dnorm_handle *graph, uint8_t form, dnorm_star_32 *star);
+
+/* Finds the arcs into each node, as dnorm_star_reverse does. */
+DNORM_INLINE dnorm_status dnorm_star_32_reverse(dnorm_star_32 *star);
+
+/* Frees what a forward star of 32 bits owns. It then owns nothing. */
+DNORM_INLINE void dnorm_star_32_free(dnorm_star_32 *star);
+
+/* Returns memory of malloc for so many numbers of this size, which free frees, or null. */
+DNORM_INLINE void *dnorm_inline_numbers(uint64_t count, size_t size) {
+    return count < SIZE_MAX / size - 1 ? malloc((DNORM_AS(size_t, count) + 1) * size) : NULL;
 }
+
+/* The functions of stars whose indexes and numbers have these types, of which no index is above `most`. */
+#define DNORM_STAR_FUNCTIONS(star_type, index_type, number_type, columns_type, copy_columns, most, name) \
+    DNORM_INLINE void name##_free(star_type *star) { \
+        const star_type none = DNORM_NO_STAR; \
+        free(star->first); \
+        free(star->heads); \
+        free(star->a); \
+        free(star->b); \
+        free(star->c); \
+        free(star->into_first); \
+        free(star->into); \
+        free(star->tails); \
+        *star = none; \
+    } \
+    DNORM_INLINE dnorm_status name##_make(const dnorm_handle *graph, uint8_t form, star_type *star) { \
+        const dnorm_summary facts = dnorm_facts(graph); \
+        const dnorm_count arcs = dnorm_arc_count(graph, form); \
+        const bool has_all = facts.kind == DNORM_MIN; \
+        const uint64_t nodes = DNORM_AS(uint64_t, facts.nodes); \
+        star_type made = DNORM_NO_STAR; \
+        dnorm_status status = {arcs.code, DNORM_NO_PLACE, 0}; \
+        dnorm_place place = DNORM_FIRST; \
+        columns_type out = {NULL, NULL, NULL, NULL, NULL}; \
+        *star = made; \
+        if (arcs.code == DNORM_FINE && (nodes > (most) || arcs.count > (most))) status.code = DNORM_TOO_WIDE; \
+        if (status.code != DNORM_FINE) return status; \
+        made.nodes = DNORM_AS(number_type, nodes); \
+        made.arcs = DNORM_AS(index_type, arcs.count); \
+        made.first = DNORM_AS(index_type *, dnorm_inline_numbers(nodes, sizeof(index_type))); \
+        out.tails = made.tails = DNORM_AS(number_type *, dnorm_inline_numbers(arcs.count, sizeof(number_type))); \
+        out.heads = made.heads = DNORM_AS(number_type *, dnorm_inline_numbers(arcs.count, sizeof(number_type))); \
+        out.a = made.a = DNORM_AS(number_type *, dnorm_inline_numbers(arcs.count, sizeof(number_type))); \
+        if (has_all) { \
+            out.b = made.b = DNORM_AS(number_type *, dnorm_inline_numbers(arcs.count, sizeof(number_type))); \
+            out.c = made.c = DNORM_AS(number_type *, dnorm_inline_numbers(arcs.count, sizeof(number_type))); \
+        } \
+        status.code = DNORM_MEMORY; \
+        if (made.first && made.tails && made.heads && made.a && (!has_all || (made.b && made.c))) \
+            status.code = copy_columns(graph, form, &place, out, arcs.count).code; \
+        if (status.code != DNORM_FINE) { \
+            name##_free(&made); \
+            return status; \
+        } \
+        for (size_t v = 0, at = 0; v <= nodes; v++) { \
+            while (at < arcs.count && DNORM_AS(uint64_t, made.tails[at]) <= v) at++; \
+            made.first[v] = DNORM_AS(index_type, at); \
+        } \
+        *star = made; \
+        return status; \
+    } \
+    DNORM_INLINE dnorm_status name##_reverse(star_type *star) { \
+        const size_t nodes = DNORM_AS(size_t, star->nodes), arcs = DNORM_AS(size_t, star->arcs); \
+        dnorm_status status = {DNORM_FINE, DNORM_NO_PLACE, 0}; \
+        free(star->into_first); \
+        free(star->into); \
+        star->into_first = DNORM_AS(index_type *, dnorm_inline_numbers(nodes, sizeof(index_type))); \
+        star->into = DNORM_AS(index_type *, dnorm_inline_numbers(arcs, sizeof(index_type))); \
+        if (!star->into_first || !star->into) { \
+            name##_free(star); \
+            status.code = DNORM_MEMORY; \
+            return status; \
+        } \
+        for (size_t v = 0; v <= nodes; v++) star->into_first[v] = 0; \
+        for (size_t at = 0; at < arcs; at++) star->into_first[star->heads[at]]++; \
+        for (size_t v = 0; v < nodes; v++) star->into_first[v + 1] += star->into_first[v]; \
+        /* Each list is filled from its end, so that its beginning is known at last. */ \
+        for (size_t at = arcs; at-- > 0;) \
+            star->into[--star->into_first[star->heads[at]]] = DNORM_AS(index_type, at); \
+        for (size_t v = 0; v < nodes; v++) star->into_first[v] = star->into_first[v + 1]; \
+        star->into_first[nodes] = star->arcs; \
+        return status; \
+    }
+DNORM_STAR_FUNCTIONS(dnorm_star, size_t, int64_t, dnorm_arc_columns, dnorm_columns, SIZE_MAX, dnorm_star)
+DNORM_STAR_FUNCTIONS(dnorm_star_32, int32_t, int32_t, dnorm_arc_columns_32, dnorm_columns_32, INT32_MAX, dnorm_star_32)
+#undef DNORM_STAR_FUNCTIONS
 
 /* Writes the problem line of a text of this kind to `out`, with a byte 0 behind it, and returns its length. `nodes` is
    for a graph alone, `count` is the number of arcs, items or points. It is empty for a kind that is none. */

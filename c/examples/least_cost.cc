@@ -1,5 +1,5 @@
-// Prints the least cost of a `min` text and the flow on each arc, by the network simplex of LEMON, whose graph is made
-// of columns. LEMON's sums of costs have 64 bits and are not checked.
+// Prints the least cost of a `min` text and the flow on each of its arc lines, by the network simplex of LEMON, whose
+// graph is made of columns. LEMON's sums of costs have 64 bits and are not checked.
 //
 //     least_cost FILE
 #include <climits>
@@ -45,22 +45,22 @@ static int solve(const dnorm_cpp::Instance &flow) {
         std::cout << "no flow\n";
         return 1;
     }
-    std::cout << "least cost " << simplex.totalCost() << '\n';
-    for (std::size_t i = 0; i < ends.size(); i++)
-        std::cout << "flow " << columns.tails[i] << ' ' << columns.heads[i] << ' '
-                  << simplex.flow(graph.arc(static_cast<int>(i))) << '\n';
+    std::vector<std::int64_t> units;
+    for (std::size_t i = 0; i < ends.size(); i++) units.push_back(simplex.flow(graph.arc(static_cast<int>(i))));
+    std::cout << "s " << simplex.totalCost() << '\n';
+    dnorm_cpp::write_flow(std::cout, flow.lines(), flow.spread(units, 2));
     return 0;
 }
 
 int main(int count, char **words) try {
-    const dnorm_cpp::Instance flow{dnorm_cpp::Path(count == 2 ? words[1] : "")};
+    const dnorm_cpp::Instance flow{dnorm_cpp::Path(count == 2 ? words[1] : ""), dnorm_cpp::with_lines};
     const dnorm_summary facts = flow.facts();
     if (facts.kind != DNORM_MIN || facts.nodes > INT_MAX || flow.arc_count(2) > INT_MAX) {
         std::cerr << "no min text, or too many nodes or arcs for LEMON\n";
         return 2;
     }
-    const int end = solve(flow);
-    if (std::cout.flush()) return end;
+    return solve(flow);
+} catch (const std::ios_base::failure &) {
     std::cerr << "standard output failed\n";
     return 4;
 } catch (const std::runtime_error &why) {

@@ -2,11 +2,10 @@
 with its handle."""
 
 import ctypes
-from collections.abc import Sequence
 from typing import Any, NamedTuple
 
-from dnorm import handles, library
-from dnorm.library import HANDLE, PLACE, Count, Handle, Place
+from dnorm import library
+from dnorm.library import HANDLE, Count, Handle, Place
 
 WRONG_CALL, NOT_BOTH = 40, 255
 KINDS = ["", "min", "max", "sp", "ss", "p2p", "co"]
@@ -20,16 +19,16 @@ class Item(ctypes.Structure):
     _fields_ = [(name, ctypes.c_int64) for name in ("id", "a", "b")]
 
 
+class Row(ctypes.Structure):
+    _fields_ = [("line", ctypes.c_uint64), *((name, ctypes.c_int64) for name in ("tail", "head", "a", "b", "c"))]
+
+
 BYTES = [ctypes.c_void_p, ctypes.c_size_t]
 # Each function: what it returns, and its arguments. The package has those that it calls.
 FUNCTIONS: dict[str, tuple[Any, ...]] = {
-    **library.FUNCTIONS,
-    **handles.FUNCTIONS,
-    "next": (Count, HANDLE, ctypes.c_uint8, PLACE, *BYTES),
-    "text": (Count, HANDLE, ctypes.c_size_t, *BYTES),
-    "name": (Count, HANDLE, *BYTES),
-    "abi": (ctypes.c_uint32,),
-}
+    **library.FUNCTIONS, "text": (Count, HANDLE, ctypes.c_size_t, *BYTES),
+    "lines": (library.Given, HANDLE, ctypes.c_char_p, ctypes.c_size_t, *BYTES),
+}  # fmt: skip
 
 
 class Answer(NamedTuple):
@@ -43,9 +42,8 @@ def answer(status: Any) -> Answer:
     return Answer(status.code, {0: "", 1: str(status.line), 2: "end"}[status.place])
 
 
-# Arcs or items by their numbers, and columns of numbers.
+# Arcs, items or arc lines by their numbers.
 Rows = list[tuple[int, ...]]
-Columns = list[list[int]]
 
 
 class WrongCall(Exception):
@@ -84,6 +82,20 @@ class Library:
         ended = answer(self.finish(handle))
         return ended if found.code in (0, ended.code) else Answer(-1, "the end has another answer than a piece")
 
+    def arc_lines(self, text: bytes, piece: int, room: int) -> tuple[Rows, int, int]:
+        """Returns the arc lines of a text that is fed in pieces, and the first line that has a fault by itself."""
+        reader, found, rows = Handle(), library.Given(), (Row * room)()
+        assert self.lines_begin(reader).code == 0
+        lines, at, all_bytes = Rows(), 0, text + b"\n"
+        while at < len(all_bytes) and found.code == 0:
+            some = all_bytes[at : at + piece]
+            found = self.lines(reader, some, len(some), ctypes.byref(rows), room)
+            assert found.code or len(some) == found.used or room == found.count
+            lines += [(it.line, it.tail, it.head, it.a, it.b, it.c) for it in rows[: found.count]]
+            at += found.used
+        self.free(reader)
+        return lines, found.code, found.line
+
     def rows(self, name: str, row: Any, room: int, *arguments: Any) -> Rows:
         """Returns all arcs or items, copied in ranges of `room`, each from the place where the last one ended. A range
         that has fewer is the last one."""
@@ -103,22 +115,6 @@ class Library:
 
     def arcs_counted(self, handle: Handle, form: int) -> int:
         return counted(self.arc_count(handle, form))
-
-    def columns_of(self, handle: Handle, form: int, rooms: Sequence[int]) -> Columns:
-        """Returns the columns of all arcs, copied in ranges; a column has room for so many of each range."""
-        found: Columns = [[] for _ in rooms]
-        place, outs = Place(), [(ctypes.c_int64 * room)() for room in rooms]
-        places = [it for out, room in zip(outs, rooms) for it in (ctypes.byref(out), room)]
-        while True:
-            count = counted(self.columns(handle, form, ctypes.byref(place), *places))
-            for column, out in zip(found, outs):
-                column += out[:count]
-            if count < max(rooms):
-                return found
-
-    def name_of(self, handle: Handle, room: int) -> str:
-        out = (ctypes.c_uint8 * room)()
-        return bytes(out[: counted(self.name(handle, ctypes.byref(out), room))]).decode()
 
     def bytes_of(self, text: Handle, room: int) -> bytes:
         """Returns the bytes of a canonical text."""

@@ -99,15 +99,18 @@ static dnorm_status make_text(dnorm *graph, dnorm *text) {
 
 static int memory(void) {
     for (long number = 0;; number++) {
-        dnorm graph = DNORM_NONE, text = DNORM_NONE;
+        dnorm graph = DNORM_NONE, text = DNORM_NONE, lines = DNORM_NONE;
         dnorm_star star = DNORM_NO_STAR;
         left = number;
         int code = make_text(&graph, &text).code;
+        if (code == DNORM_FINE) code = dnorm_lines_begin(&lines).code;
         if (code == DNORM_FINE) code = dnorm_star_make(&graph, 1, &star).code;
+        if (code == DNORM_FINE) code = dnorm_star_reverse(&star).code;
         int failed = left < 0;
         left = -1;
         if (code != (failed ? DNORM_MEMORY : DNORM_FINE)) return printf("%ld: code %d\n", number, code), 1;
         dnorm_star_free(&star);
+        dnorm_free(&lines);
         dnorm_free(&text);
         dnorm_free(&graph);
         if (live) return printf("%ld: leaves %ld\n", number, live), 1;
@@ -158,14 +161,14 @@ static int threads(void) {
     return puts(""), 0;
 }
 
-/* An instance and its text, which threads share, and what one of them found in them. */
+/* An instance and another handle, which threads share, and what one of them found in them. */
 typedef struct readings {
     const dnorm *graph, *text;
     long times, wrong;
 } readings;
 
 /* Whether the arcs, in both ways to copy them, the items and the text are right. */
-static int is_copied(const dnorm *graph, const dnorm *text) {
+static int is_copied(const dnorm *graph, dnorm *text) {
     dnorm_place places[3] = {DNORM_FIRST, DNORM_FIRST, DNORM_FIRST};
     dnorm_arc arcs[8];
     dnorm_item items[4];
@@ -173,7 +176,8 @@ static int is_copied(const dnorm *graph, const dnorm *text) {
     uint8_t bytes[128];
     size_t count = dnorm_next(graph, 1, &places[0], arcs, 2).count;
     count += dnorm_next(graph, 1, &places[0], arcs + 2, 6).count;
-    size_t columns = dnorm_columns(graph, 1, &places[1], NULL, 0, heads, 8, NULL, 0, NULL, 0, costs, 8).count;
+    const dnorm_arc_columns wanted = {NULL, heads, NULL, NULL, costs};
+    size_t columns = dnorm_columns(graph, 1, &places[1], wanted, 8).count;
     size_t length = dnorm_text(text, 0, bytes, sizeof bytes).count;
     if (count != 5 || columns != 5 || arcs[1].b != 4 || heads[3] != 3 || costs[0] != 6) return 0;
     if (dnorm_items(graph, &places[2], items, 4).count != 2 || items[1].a != -2) return 0;
@@ -183,10 +187,8 @@ static int is_copied(const dnorm *graph, const dnorm *text) {
 static void *read_both(void *given) {
     readings *it = given;
     for (long i = 0; i < it->times; i++) {
-        uint8_t name[8];
         dnorm text = DNORM_NONE;
         int is_right = dnorm_facts(it->graph).pairs == 2 && dnorm_arc_count(it->graph, 2).count == 3;
-        is_right &= dnorm_name(it->graph, name, 8).count == 3 && is_copied(it->graph, it->text);
         is_right &= dnorm_compare(it->graph, it->graph).what == DNORM_SAME;
         is_right &= dnorm_compare(it->graph, it->text).what == DNORM_NOT_BOTH;
         is_right &= dnorm_fits(it->graph, it->graph).code == DNORM_NOT_KINDS;
@@ -211,19 +213,24 @@ static int readers(long times) {
 }
 
 static int nulls(void) {
-    dnorm graph = DNORM_NONE, text = DNORM_NONE;
+    dnorm graph = DNORM_NONE, text = DNORM_NONE, lines = DNORM_NONE;
     dnorm_place place = DNORM_FIRST;
-    dnorm_free(NULL);
+    const dnorm_arc_columns none = {NULL, NULL, NULL, NULL, NULL};
+    /* The function itself takes null, as those of other languages call it. */
+    void (*volatile free_it)(dnorm *) = dnorm_free;
+    free_it(NULL);
     int is_right = dnorm_begin(&graph).code == DNORM_FINE && dnorm_feed(&graph, NULL, 0).code == DNORM_FINE;
     feed(&graph, good);
     is_right &= dnorm_finish(&graph).code == DNORM_FINE && dnorm_next(&graph, 1, &place, NULL, 0).code == DNORM_FINE;
-    is_right &= dnorm_columns(&graph, 1, &place, NULL, 0, NULL, 0, NULL, 0, NULL, 0, NULL, 0).count == 0;
-    is_right &= dnorm_items(&graph, &place, NULL, 0).code == DNORM_FINE && dnorm_name(&graph, NULL, 0).count == 0;
+    is_right &= dnorm_columns(&graph, 1, &place, none, 0).count == 0;
+    is_right &= dnorm_items(&graph, &place, NULL, 0).code == DNORM_FINE;
+    is_right &= dnorm_lines_begin(&lines).code == DNORM_FINE && dnorm_lines(&lines, NULL, 0, NULL, 0).code == DNORM_FINE;
     is_right &= dnorm_canon(&graph, 1, &graph).code == DNORM_WRONG_CALL && dnorm_facts(&graph).kind == DNORM_MIN;
     is_right &= dnorm_canon(&text, 1, &text).code == DNORM_WRONG_CALL && !text.full;
     is_right &= dnorm_canon(&graph, 1, &text).code == DNORM_FINE && dnorm_text(&text, 0, NULL, 0).code == DNORM_FINE;
     is_right &= place.pairs == 0 && place.within == 0;
-    (dnorm_free)(&text);
+    dnorm_free(&lines);
+    dnorm_free(&text);
     dnorm_free(&graph);
     return puts(is_right ? "right" : "wrong"), live != 0;
 }
@@ -251,26 +258,32 @@ static int is_same_again(const dnorm *graph, int form) {
 
 static void *call_all(void *it) {
     given *text = it;
-    dnorm graph = DNORM_NONE;
-    uint8_t name[8];
+    dnorm graph = DNORM_NONE, lines = DNORM_NONE;
     dnorm_arc arcs[8];
+    dnorm_row line[8];
     dnorm_item items[8];
     int64_t column[8];
+    const dnorm_arc_columns tails = {column, NULL, NULL, NULL, NULL};
     dnorm_place places[3] = {DNORM_FIRST, DNORM_FIRST, DNORM_FIRST};
     int is_right = dnorm_begin(&graph).code == DNORM_FINE;
     for (size_t at = 0; at < text->length; at += 4096) {
         size_t rest = text->length - at;
         is_right &= dnorm_feed(&graph, (uint8_t *)text->bytes + at, rest < 4096 ? rest : 4096).code == DNORM_FINE;
     }
-    is_right &= dnorm_finish(&graph).code == DNORM_FINE && dnorm_name(&graph, name, 8).count > 1;
+    is_right &= dnorm_finish(&graph).code == DNORM_FINE && dnorm_lines_begin(&lines).code == DNORM_FINE;
+    for (size_t at = 0; at < text->length;) {
+        dnorm_lines_given some = dnorm_lines(&lines, (uint8_t *)text->bytes + at, text->length - at, line, 8);
+        is_right &= some.code == DNORM_FINE;
+        at += some.code == DNORM_FINE ? some.used : text->length;
+    }
     size_t rows = 0, cells = 0;
     for (size_t n; (n = dnorm_next(&graph, 1, &places[0], arcs, 8).count);) rows += n;
-    for (size_t n; (n = dnorm_columns(&graph, 1, &places[1], column, 8, NULL, 0, NULL, 0, NULL, 0, NULL, 0).count);)
-        cells += n;
+    for (size_t n; (n = dnorm_columns(&graph, 1, &places[1], tails, 8).count);) cells += n;
     is_right &= rows == dnorm_arc_count(&graph, 1).count && cells == rows;
     size_t wanted = dnorm_facts(&graph).items;
     is_right &= dnorm_items(&graph, &places[2], items, 8).count == (wanted < 8 ? wanted : 8);
     text->is_right = is_right && is_same_again(&graph, 1) && is_same_again(&graph, 2);
+    dnorm_free(&lines);
     dnorm_free(&graph);
     return 0;
 }

@@ -59,66 +59,66 @@ static bool loops_alike(const Instance &instance, int form) {
     return are_same && asked == before && at == all.size() && at == instance.arc_count(form);
 }
 
-// Whether columns, or a star and the tails of its arcs, have the arcs of the list. Those that the kind lacks are empty.
-template <typename Number, typename Columns>
-static bool columns_alike(const Instance &instance, const std::vector<Number> &tails, const Columns &it, int form) {
+// Whether columns, which a star has, too, have the arcs of the list. Those that the kind lacks are empty.
+template <typename Columns> static bool has_arcs(const Columns &it, const Instance &instance, int form) {
     const std::vector<dnorm_arc> all = instance.arcs(form);
     const bool has_all = instance.facts().kind == DNORM_MIN;
     const std::size_t further = has_all ? all.size() : 0;
-    if (tails.size() != all.size() || it.heads.size() != all.size() || it.a.size() != all.size()) return false;
+    if (it.tails.size() != all.size() || it.heads.size() != all.size() || it.a.size() != all.size()) return false;
     if (it.b.size() != further || it.c.size() != further) return false;
     for (std::size_t i = 0; i < all.size(); i++) {
         const std::int64_t b = has_all ? it.b[i] : 0, c = has_all ? it.c[i] : 0;
-        if (!is_same(all[i], dnorm_arc{tails[i], it.heads[i], it.a[i], b, c})) return false;
+        if (!is_same(all[i], dnorm_arc{it.tails[i], it.heads[i], it.a[i], b, c})) return false;
     }
     return true;
 }
 
-static bool fits_32(const std::vector<std::int64_t> &column) {
-    for (std::int64_t it : column)
-        if (it < INT32_MIN || it > INT32_MAX) return false;
+static bool fits_32(const dnorm_cpp::Columns &columns) {
+    for (const auto *column : {&columns.tails, &columns.heads, &columns.a, &columns.b, &columns.c})
+        for (std::int64_t it : *column)
+            if (it < INT32_MIN || it > INT32_MAX) return false;
     return true;
 }
 
 static bool columns_alike(const Instance &instance, int form) {
     const dnorm_cpp::Columns columns = instance.columns(form);
-    if (!columns_alike(instance, columns.tails, columns, form)) return false;
     try {
-        const dnorm_cpp::Columns32 narrow = instance.columns_32(form);
-        return columns_alike(instance, narrow.tails, narrow, form);
+        return has_arcs(columns, instance, form) && has_arcs(instance.columns_32(form), instance, form);
     } catch (const std::range_error &) {
-        return !fits_32(columns.tails) || !fits_32(columns.heads) || !fits_32(columns.a) || !fits_32(columns.b) ||
-               !fits_32(columns.c);
+        return !fits_32(columns);
     }
 }
 
-// Whether a forward star has the arcs of each node. One of too many nodes cannot be made.
+// Whether a star has the arcs of each node, and the arcs into each node in their order.
+template <typename Star> static bool has_arcs_of_nodes(Star star) {
+    const auto index = [](auto number) { return static_cast<std::size_t>(number); };
+    star.reverse();
+    const std::size_t arcs = star.tails.size(), ends = star.first.size() - 1;
+    if (index(star.first.at(0)) != 0 || index(star.first.back()) != arcs || star.into.size() != arcs) return false;
+    if (star.into_first.size() != ends + 1 || star.into_first[0] != 0) return false;
+    for (std::size_t v = 1; v <= ends; v++) {
+        for (std::size_t i = index(star.first[v - 1]); i < index(star.first[v]); i++)
+            if (index(star.tails.at(i)) != v) return false;
+        for (std::size_t i = index(star.into_first[v - 1]); i < index(star.into_first[v]); i++) {
+            if (index(star.heads.at(index(star.into[i]))) != v) return false;
+            if (i > index(star.into_first[v - 1]) && star.into[i - 1] >= star.into[i]) return false;
+        }
+    }
+    return index(star.into_first[ends]) == arcs;
+}
+
+// Whether forward stars have the arcs of each node. One of too many nodes cannot be made.
 static bool is_star(const Instance &instance, int form) try {
-    const dnorm_cpp::Columns columns = instance.columns(form);
     const dnorm_cpp::Star star = instance.star(form);
-    if (!columns_alike(instance, columns.tails, star, form)) return false;
-    for (std::size_t v = 1; v < star.first.size(); v++)
-        for (std::size_t i = star.first[v - 1]; i < star.first[v]; i++)
-            if (columns.tails.at(i) != static_cast<std::int64_t>(v)) return false;
-    return star.first.at(0) == 0 && star.first.back() == columns.tails.size();
+    if (!has_arcs(star, instance, form) || !has_arcs_of_nodes(star)) return false;
+    try {
+        const dnorm_cpp::Star32 narrow = instance.star_32(form);
+        return has_arcs(narrow, instance, form) && has_arcs_of_nodes(narrow);
+    } catch (const std::range_error &) {
+        return !fits_32(star);
+    }
 } catch (const std::bad_alloc &) {
     return instance.facts().nodes > 1'000'000;
-}
-
-// Whether several threads may read the instance.
-static bool is_shared(const Instance &instance) {
-    bool are_right[3] = {};
-    std::vector<std::thread> threads;
-    for (bool &it : are_right) threads.emplace_back([&] { it = columns_alike(instance, 2); });
-    for (std::thread &it : threads) it.join();
-    return are_right[0] && are_right[1] && are_right[2];
-}
-
-// Whether all ways to have the arcs agree.
-static bool is_graph(const Instance &instance) {
-    for (int form : {1, 2})
-        if (!loops_alike(instance, form) || !columns_alike(instance, form) || !is_star(instance, form)) return false;
-    return is_shared(instance) && instance.arc_count(2) <= instance.arc_count();
 }
 
 // Whether a call throws this error.
@@ -137,26 +137,97 @@ static bool refuses(int code, const std::function<void()> &call) try {
     return why.status.code == code;
 }
 
+// The arc lines of an accepted text, read word by word.
+static std::vector<dnorm_row> lines_of(const std::string &text) {
+    std::vector<dnorm_row> found;
+    std::istringstream source(text);
+    std::string line, letter;
+    for (std::uint64_t number = 1; std::getline(source, line); number++) {
+        std::istringstream words(line);
+        dnorm_row it{number, 0, 0, 0, 0, 0};
+        if (!(words >> letter) || letter != "a") continue;
+        words >> it.tail >> it.head >> it.a >> it.b >> it.c;
+        found.push_back(it);
+    }
+    return found;
+}
+
+static bool is_same(const dnorm_row &it, const dnorm_row &other) {
+    return it.line == other.line && it.tail == other.tail && it.head == other.head && it.a == other.a &&
+           it.b == other.b && it.c == other.c;
+}
+
+// Whether the flow of the lower bounds is that of the lines as well, and another number is no flow.
+static bool spreads(const Instance &it, const std::vector<dnorm_row> &lines, int form) {
+    const bool is_min = it.facts().kind == DNORM_MIN;
+    std::vector<std::int64_t> of_arcs, of_lines;
+    for (const dnorm_arc &arc : it.arcs(form)) of_arcs.push_back(is_min ? arc.a : 0);
+    for (const dnorm_row &line : lines) of_lines.push_back(is_min ? line.a : 0);
+    return it.spread(of_arcs, form) == of_lines && refuses(DNORM_NOT_A_FLOW, [&] { it.spread({-1}, form); });
+}
+
+// Whether the arc lines of a text are kept, in whatever way it is read, and a flow can be put back on them.
+static bool keeps_lines(const std::string &text, bool is_graph) {
+    const std::vector<dnorm_row> wanted = lines_of(text);
+    dnorm_status status;
+    std::istringstream source(text), again(text);
+    const Instance by_stream(source, dnorm_cpp::with_lines);
+    const Instance by_text(std::string_view(text), dnorm_cpp::with_lines);
+    const std::optional<Instance> by_code = Instance::read(again, dnorm_cpp::with_lines, status);
+    dnorm_cpp::Reader reader{dnorm_cpp::with_lines};
+    for (char it : text) reader.feed({&it, 1});
+    const Instance in_pieces = reader.finish();
+    for (const Instance *it : {&by_stream, &by_text, &*by_code, &in_pieces}) {
+        std::size_t at = 0;
+        for (const dnorm_row &line : it->lines())
+            if (at == wanted.size() || !is_same(line, wanted[at++])) return false;
+        if (at != wanted.size()) return false;
+    }
+    const Instance without{std::string_view(text)};
+    return refuses(DNORM_WRONG_CALL, [&] { without.lines(); }) &&
+           (!is_graph || (spreads(by_text, wanted, 1) && spreads(in_pieces, wanted, 2)));
+}
+
+// Whether several threads may read the instance.
+static bool is_shared(const Instance &instance) {
+    bool are_right[3] = {};
+    std::vector<std::thread> threads;
+    for (bool &it : are_right) threads.emplace_back([&] { it = columns_alike(instance, 2); });
+    for (std::thread &it : threads) it.join();
+    return are_right[0] && are_right[1] && are_right[2];
+}
+
+// Whether all ways to have the arcs agree.
+static bool is_graph(const Instance &instance) {
+    for (int form : {1, 2})
+        if (!loops_alike(instance, form) || !columns_alike(instance, form) || !is_star(instance, form)) return false;
+    return is_shared(instance) && instance.arc_count(2) <= instance.arc_count();
+}
+
+// Whether each of these calls is one that the instance does not take.
+static bool refuses_all(const std::vector<std::function<void()>> &calls) {
+    for (const auto &call : calls)
+        if (!refuses(DNORM_WRONG_CALL, call)) return false;
+    return true;
+}
+
 // Whether each call for arcs says that there is no graph.
 static bool refuses_arcs(const Instance &it) {
     bool has_visited = false;
     const auto visit = [&](const dnorm_arc &) { has_visited = true; };
-    return refuses(DNORM_WRONG_CALL, [&] { it.for_each_arc(visit); }) && !has_visited &&
-           refuses(DNORM_WRONG_CALL, [&] { it.arc_count(); }) && refuses(DNORM_WRONG_CALL, [&] { it.arcs(2); }) &&
-           refuses(DNORM_WRONG_CALL, [&] { it.columns(); }) && refuses(DNORM_WRONG_CALL, [&] { it.columns_32(); }) &&
-           refuses(DNORM_WRONG_CALL, [&] { it.star(); });
+    return refuses_all({[&] { it.for_each_arc(visit); }, [&] { it.arc_count(); }, [&] { it.arcs(2); },
+                        [&] { it.columns(); }, [&] { it.columns_32(); }, [&] { it.star(); }, [&] { it.star_32(); },
+                        [&] { it.lines(); }}) &&
+           !has_visited;
 }
 
 // Whether each call says that an instance was moved from.
 static bool is_gone(const Instance &it) {
     const Instance other(std::string_view("p sp 1 0\n"));
     dnorm_status status;
-    return refuses_arcs(it) && refuses(DNORM_WRONG_CALL, [&] { it.facts(); }) &&
-           refuses(DNORM_WRONG_CALL, [&] { it.items(); }) && refuses(DNORM_WRONG_CALL, [&] { it.text(); }) &&
-           refuses(DNORM_WRONG_CALL, [&] { it.compare(other); }) &&
-           refuses(DNORM_WRONG_CALL, [&] { other.compare(it); }) &&
-           refuses(DNORM_WRONG_CALL, [&] { it.fits(other); }) && refuses(DNORM_WRONG_CALL, [&] { other.fits(it); }) &&
-           !it.text(1, status) && status.code == DNORM_WRONG_CALL;
+    return refuses_arcs(it) && !it.text(1, status) && status.code == DNORM_WRONG_CALL &&
+           refuses_all({[&] { it.facts(); }, [&] { it.items(); }, [&] { it.text(); }, [&] { it.compare(other); },
+                        [&] { other.compare(it); }, [&] { it.fits(other); }, [&] { other.fits(it); }});
 }
 
 // The bytes of a stream, which then fails or ends. It tells whether it was flushed.
@@ -255,7 +326,8 @@ static int print(const std::string &given) {
     Instance read(source);
     Instance instance(std::move(read));
     if (!is_gone(read) || instance.compare(instance).what != DNORM_SAME || !reads_alike(given, instance)) return 1;
-    if (instance.facts().kind <= DNORM_SP ? !is_graph(instance) : !refuses_arcs(instance)) return 1;
+    const bool has_arcs = instance.facts().kind <= DNORM_SP;
+    if (!(has_arcs ? is_graph(instance) : refuses_arcs(instance)) || !keeps_lines(given, has_arcs)) return 1;
     const std::string text = instance.text(2);
     Instance again{std::string_view(text)};
     if (!is_written(instance) || again.fits(again).code != DNORM_NOT_KINDS) return 1;

@@ -2,7 +2,8 @@
 //! thread; a refusal is a line on standard error. The status is 2 for a refused text. With an argument, the text is in
 //! the file of this name; its arcs are also written by the crate.
 use dnorm::{
-    Arc, Columns, Declared, Difference, Fit, Form, Instance, Item, Kind, ReadError, Reader, Refusal,
+    ArcLine, CanonArc, Columns, Declared, Difference, Fit, Form, Instance, Item, Kind, ReadError,
+    Reader, Refusal, Star,
 };
 use std::alloc::{GlobalAlloc, Layout, System};
 use std::fs::File;
@@ -84,70 +85,125 @@ fn read_in_pieces(text: &[u8], size: usize) -> Result<Instance, Refusal> {
 
 /// Checks that all ways to have the arcs agree.
 fn check_arcs(instance: &Instance, form: Form) {
-    let arcs: Vec<Arc> = instance.arcs(form).collect();
+    let arcs: Vec<CanonArc> = instance.arcs(form).collect();
     assert_eq!(arcs.len(), instance.arc_count(form));
     let mut pairs: Vec<_> = arcs.iter().map(|it| (it.tail, it.head)).collect();
     pairs.dedup();
     assert_eq!(pairs.len() as u64, instance.pairs());
     let columns = instance.columns(form);
-    for (at, arc) in arcs.iter().enumerate() {
-        let further = |column: &[i64]| column.get(at).copied().unwrap_or(0);
-        let found = (columns.tails[at], columns.heads[at], columns.a[at]);
-        assert_eq!(found, (arc.tail, arc.head, arc.a));
-        assert_eq!((further(&columns.b), further(&columns.c)), (arc.b, arc.c));
+    let found = all(&columns);
+    let numbers: [fn(&CanonArc) -> i64; 5] =
+        [|it| it.tail, |it| it.head, |it| it.a, |it| it.b, |it| it.c];
+    let has_all = instance.kind() == Kind::Min;
+    for (at, of) in numbers.into_iter().enumerate() {
+        let kept = arcs.iter().filter(|_| at < 3 || has_all).map(of);
+        assert!(kept.eq(found[at].iter().copied()));
     }
-    let has_all = instance.kind() == Kind::Min && !arcs.is_empty();
-    assert_eq!(columns.b.is_empty(), !has_all);
     match instance.columns_32(form) {
-        Ok(Columns {
-            tails,
-            heads,
-            a,
-            b,
-            c,
-        }) => {
-            let widened = |column: Vec<i32>| column.into_iter().map(i64::from).collect();
-            let [tails, heads, a, b, c] = [tails, heads, a, b, c].map(widened);
-            let wide = Columns {
-                tails,
-                heads,
-                a,
-                b,
-                c,
-            };
-            assert_eq!(wide, columns);
-        }
-        Err(_) => {
-            let wide = |it: &i64| i32::try_from(*it).is_err();
-            let Columns {
-                tails,
-                heads,
-                a,
-                b,
-                c,
-            } = &columns;
-            assert!([tails, heads, a, b, c].iter().any(|it| it.iter().any(wide)));
-        }
+        Ok(narrow) => assert_eq!(all(&narrow), found),
+        Err(_) => assert!(found
+            .concat()
+            .into_iter()
+            .any(|it| i32::try_from(it).is_err())),
     }
     check_star(instance, form, &columns);
+}
+
+/// Returns the columns, with numbers of 64 bits.
+fn all<Number: Copy + Into<i64>>(it: &Columns<Number>) -> [Vec<i64>; 5] {
+    let wide = |column: &Vec<Number>| column.iter().map(|it| (*it).into()).collect();
+    [&it.tails, &it.heads, &it.a, &it.b, &it.c].map(wide)
 }
 
 /// Checks that a forward star has the arcs of each node.
 fn check_star(instance: &Instance, form: Form, columns: &Columns<i64>) {
     match instance.star(form) {
-        Ok(star) => {
+        Ok(mut star) => {
             assert_eq!(star.columns, *columns);
+            star.reverse();
             for node in 1..star.first.len() {
                 let is_own = |tail: &i64| *tail == node as i64;
                 assert!(columns.tails[star.arcs_of(node)].iter().all(is_own));
+                let into = star.arcs_into(node);
+                assert!(into.iter().all(|it| is_own(&columns.heads[*it])));
+                assert!(into.windows(2).all(|it| it[0] < it[1]));
             }
             let all = (1..star.first.len())
                 .map(|it| star.arcs_of(it).len())
                 .sum::<usize>();
-            assert_eq!(all, columns.tails.len());
+            assert_eq!((all, star.into.len()), (columns.tails.len(), all));
+            check_narrow_star(instance, form, &star);
         }
         Err(why) => assert!(why.is_memory() && instance.nodes() > 1_000_000),
     }
+}
+
+/// Checks that a forward star of 32 bits is the same, or cannot be made.
+fn check_narrow_star(instance: &Instance, form: Form, star: &Star) {
+    match (instance.star_32(form), instance.columns_32(form)) {
+        (Ok(mut narrow), Ok(columns)) => {
+            assert_eq!(narrow.columns, columns);
+            narrow.reverse();
+            let same = |left: &[i32], right: &[usize]| {
+                left.iter().map(|it| *it as usize).eq(right.iter().copied())
+            };
+            assert!(same(&narrow.first, &star.first));
+            assert!(same(&narrow.into, &star.into));
+            assert!(same(&narrow.into_first, &star.into_first));
+        }
+        (star, columns) => assert!(star.is_err() && columns.is_err()),
+    }
+}
+
+/// Returns the arc lines of an accepted text, read word by word: the number of each, and its numbers.
+fn lines_of(text: &[u8]) -> Vec<[i64; 6]> {
+    let text = String::from_utf8_lossy(text);
+    let mut found = Vec::new();
+    for (line, words) in (1..).zip(text.split('\n').map(str::split_whitespace)) {
+        let words: Vec<_> = words.collect();
+        if words.first() == Some(&"a") {
+            let number = |at: usize| words.get(at).map_or(0, |it| it.parse().expect("a number"));
+            let [tail, head, a, b, c] = [1, 2, 3, 4, 5].map(number);
+            found.push([line, tail, head, a, b, c]);
+        }
+    }
+    found
+}
+
+/// Checks that the arc lines of a text are kept, and that a flow can be put back on them.
+fn check_lines(text: &[u8]) -> Result<(), ReadError> {
+    let wanted = lines_of(text);
+    let whole = Instance::read_with_lines(text)?;
+    let mut reader = Reader::with_lines()?;
+    text.chunks(1).try_for_each(|it| reader.feed(it))?;
+    let numbers = |it: &ArcLine| [it.line as i64, it.tail, it.head, it.a, it.b, it.c];
+    for it in [&whole, &reader.finish()?] {
+        let kept = it.arc_lines().expect("lines").iter().map(numbers);
+        assert!(kept.eq(wanted.iter().copied()));
+    }
+    let without = Instance::from_bytes(text)?;
+    assert!(without.arc_lines().is_none() && without.spread(Form::One, &[]).is_err());
+    let is_min = whole.kind() == Kind::Min;
+    if !is_min && whole.kind() != Kind::Max {
+        return Ok(());
+    }
+    let bounds = |a: i64, b: i64| if is_min { (a, b) } else { (0, a) };
+    let (lows, caps) = wanted.iter().map(|it| bounds(it[3], it[4])).unzip();
+    for form in [Form::One, Form::Two] {
+        let (least, mut most): (Vec<_>, Vec<_>) =
+            whole.arcs(form).map(|it| bounds(it.a, it.b)).unzip();
+        assert_eq!(whole.spread(form, &least).as_ref(), Ok(&lows));
+        assert_eq!(whole.spread(form, &most).as_ref(), Ok(&caps));
+        most.push(0);
+        assert!(whole.spread(form, &most).is_err());
+        most.pop();
+        if most.pop().is_some() {
+            assert!(whole.spread(form, &most).is_err());
+            most.push(-1);
+            assert!(whole.spread(form, &most).is_err());
+        }
+    }
+    Ok(())
 }
 
 /// Checks that an instance has all that another one has, which reads as the same text.
@@ -194,84 +250,34 @@ fn texts_of(instance: Instance) -> Result<Vec<u8>, Refusal> {
     Ok([one, two].concat())
 }
 
-/// Texts, and what they differ in.
-const DIFFERING: [(&str, &str, Difference); 6] = [
-    (
-        "p max 4 0\nn 1 s\nn 2 t\n",
-        "p max 4 0\nn 3 s\nn 2 t\n",
-        Difference::Source(1, 3),
-    ),
-    (
-        "p max 4 0\nn 1 s\nn 2 t\n",
-        "p max 4 0\nn 1 s\nn 4 t\n",
-        Difference::Sink(2, 4),
-    ),
-    (
-        "p aux sp p2p 1\nq 3 4\n",
-        "p aux sp p2p 0\n",
-        Difference::Length(1, 0),
-    ),
-    (
-        "p aux sp ss 3\ns 9\ns 8\ns 7\n",
-        "p aux sp ss 3\ns 9\ns 8\ns 6\n",
-        Difference::Item(3),
-    ),
-    (
-        "p aux sp co 1\nv 7 1 2\n",
-        "p aux sp co 1\nv 7 2 2\n",
-        Difference::Point(7),
-    ),
-    (
-        "p min 3 1\na 1 3 0 5 2\n",
-        "p min 3 1\na 1 3 0 4 2\n",
-        Difference::Pair {
-            tail: 1,
-            head: 3,
-            amount: 5,
-            left: Some(10),
-            right: None,
-        },
-    ),
-];
+/// Texts, in which ` / ` stands for the end of a line, and what they differ in.
+const DIFFERING: &str = "\
+p sp 2 1 / a 1 2 7 ; p sp 2 1 / a 2 1 -7 ; Pair { tail: 1, head: 2, amount: 0, left: Some(7), right: None }
+p sp 2 1 / a 1 2 7 ; p aux sp ss 1 / s 9 ; Kinds(Sp, Ss)
+p sp 2 1 / a 1 2 7 ; p sp 3 0 ; Nodes(2, 3)
+p min 1 0 / n 1 -9223372036854775808 ; p min 1 0 ; Supply(1, -9223372036854775808, 0)
+p max 4 0 / n 1 s / n 2 t ; p max 4 0 / n 3 s / n 2 t ; Source(1, 3)
+p max 4 0 / n 1 s / n 2 t ; p max 4 0 / n 1 s / n 4 t ; Sink(2, 4)
+p aux sp p2p 1 / q 3 4 ; p aux sp p2p 0 ; Length(1, 0)
+p aux sp ss 3 / s 9 / s 8 / s 7 ; p aux sp ss 3 / s 9 / s 8 / s 6 ; Item(3)
+p aux sp co 1 / v 7 1 2 ; p aux sp co 1 / v 7 2 2 ; Point(7)
+p min 3 1 / a 1 3 0 5 2 ; p min 3 1 / a 1 3 0 4 2 ; \
+Pair { tail: 1, head: 3, amount: 5, left: Some(10), right: None }";
 
 /// Checks what differs, with values, and which companions fit.
 fn check_pairs() -> Result<(), Refusal> {
-    let graph = Instance::from_bytes(b"p sp 2 1\na 1 2 7\n")?;
-    let other = Instance::from_bytes(b"p sp 2 1\na 2 1 -7\n")?;
-    let sources = Instance::from_bytes(b"p aux sp ss 1\ns 9\n")?;
-    let [left, right] = [Some(7), None];
-    let (tail, head, amount) = (1, 2, 0);
-    let wanted = Difference::Pair {
-        tail,
-        head,
-        amount,
-        left,
-        right,
-    };
-    assert_eq!(graph.compare(&other), Some(wanted));
-    assert_eq!(
-        graph.compare(&sources),
-        Some(Difference::Kinds(Kind::Sp, Kind::Ss))
-    );
-    let larger = Instance::from_bytes(b"p sp 3 0\n")?;
-    assert_eq!(graph.compare(&larger), Some(Difference::Nodes(2, 3)));
-    let low = Instance::from_bytes(b"p min 1 0\nn 1 -9223372036854775808\n")?;
-    let none = Instance::from_bytes(b"p min 1 0\n")?;
-    assert_eq!(
-        low.compare(&none),
-        Some(Difference::Supply(1, i128::from(i64::MIN), 0))
-    );
-    for (left, right, wanted) in DIFFERING {
-        let [left, right] = [left, right].map(|it| Instance::from_bytes(it.as_bytes()));
-        assert_eq!(left?.compare(&right?), Some(wanted));
+    let read = |text: &str| Instance::from_bytes(text.replace(" / ", "\n").as_bytes());
+    for row in DIFFERING.lines() {
+        let parts: Vec<_> = row.split(" ; ").collect();
+        let found: Option<Difference> = read(parts[0])?.compare(&read(parts[1])?);
+        assert_eq!(format!("{found:?}"), format!("Some({})", parts[2]));
     }
-    let near = Instance::from_bytes(b"p aux sp ss 1\ns 2\n")?;
-    assert_eq!(graph.fits(&near), Fit::Fits);
-    assert_eq!(graph.fits(&sources), Fit::NotInGraph(9));
-    assert_eq!(
-        (sources.fits(&graph), graph.fits(&graph)),
-        (Fit::NotKinds, Fit::NotKinds)
-    );
+    let graph = read("p sp 2 1 / a 1 2 7")?;
+    let [near, far] = ["p aux sp ss 1 / s 2", "p aux sp ss 1 / s 9"].map(read);
+    let far = far?;
+    assert_eq!(graph.fits(&near?), Fit::Fits);
+    assert_eq!(graph.fits(&far), Fit::NotInGraph(9));
+    assert_eq!([far.fits(&graph), graph.fits(&graph)], [Fit::NotKinds; 2]);
     Ok(())
 }
 
@@ -285,7 +291,7 @@ fn check_costs() -> Result<(), Refusal> {
         let asked = ASKED.load(Ordering::Relaxed) - before;
         assert!(count > 0 && asked < 1000, "{asked} bytes for {text}");
     }
-    let arcs: Vec<Arc> = (1..=9000).map(arc_of).collect();
+    let arcs: Vec<CanonArc> = (1..=9000).map(arc_of).collect();
     let mut pieces = Pieces {
         written: Vec::new(),
         count: 0,
@@ -330,12 +336,12 @@ fn check_sources() {
     assert_eq!(kind.err(), Some(Some(ErrorKind::NotFound)));
 }
 
-fn arc_of(tail: i64) -> Arc {
-    Arc {
+fn arc_of(tail: i64) -> CanonArc {
+    CanonArc {
         tail,
         head: 1,
         a: -7,
-        ..Arc::default()
+        ..CanonArc::default()
     }
 }
 
@@ -343,21 +349,23 @@ fn arc_of(tail: i64) -> Arc {
 fn print_file(name: &str) -> Result<(), ReadError> {
     let instance = Instance::open(name)?;
     let items: Vec<Item> = instance.items().collect();
-    let arcs: Vec<Arc> = instance.arcs(Form::One).collect();
+    let arcs: Vec<CanonArc> = instance.arcs(Form::One).collect();
     dnorm::write(stdout(), instance.kind(), instance.nodes(), &items, &arcs)?;
     Ok(())
 }
 
 fn print() -> Result<(), ReadError> {
-    let instance = Instance::read(stdin())?;
+    let mut given = Vec::new();
+    stdin().read_to_end(&mut given)?;
+    let instance = Instance::read(&given[..])?;
     check_arcs(&instance, Form::One);
+    check_lines(&given)?;
     let text = spawn(move || texts_of(instance)).join();
     stdout().write_all(&text.expect("a thread")?)?;
     Ok(())
 }
 
 fn main() -> ExitCode {
-    assert_eq!(dnorm::abi(), 2);
     check_pairs().expect("instances");
     check_costs().expect("instances");
     check_sources();

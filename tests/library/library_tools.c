@@ -1,13 +1,14 @@
 /* Uses the functions of dnorm_tools.h, as tests/library says.
 
        tools codes               the name and the sentence of each number of 8 bits
-       tools read HOW [PATH]     reads a text by HOW: path, or fd and file, of standard input without PATH. Prints what
-                                 the status means, and if it is none, the canonical text by dnorm_write
-       tools once PATH           reads a text from a file, and prints its canonical text, if the file is closed again
+       tools read HOW [PATH]     reads a text by HOW: path, lines (a path, with the arc lines), or fd and file, of
+                                 standard input without PATH. Prints what the status means, and if it is none, the
+                                 canonical text by dnorm_write. A file that is read by its name is closed again
        tools signals             reads a text whose bytes come one by one, while signals interrupt the reads
        tools broken              reads two texts from a stream that fails after its first bytes, and a fault from a pipe
                                  that stays open, and writes texts to streams that fail
-       tools star FORM           prints where the arcs of each node of standard input begin, and the columns
+       tools star FORM           prints where the arcs of each node of standard input begin, and the columns, by stars of
+                                 64 and 32 bits, with the arcs into each node
        tools narrow FORM ROOM    prints the columns of 32 bits of standard input, copied in ranges of ROOM arcs, and the
                                  first arc that does not fit them */
 #define _GNU_SOURCE
@@ -50,23 +51,6 @@ static int print(const dnorm *graph) {
     return !dnorm_write(stdout, facts.kind, facts.nodes, items, item_count, arcs, arc_count);
 }
 
-static int read_by(const char *how, const char *path) {
-    dnorm graph = DNORM_NONE;
-    dnorm_status status = {DNORM_WRONG_CALL, DNORM_NO_PLACE, 0};
-    FILE *file = path ? fopen(path, "rb") : stdin;
-    int end;
-    if (!strcmp(how, "path")) status = dnorm_read_path(&graph, path);
-    else if (!strcmp(how, "file") && file) status = dnorm_read_file(&graph, file);
-    else if (file) status = dnorm_read_fd(&graph, fileno(file));
-    end = status.code == DNORM_FINE ? print(&graph) : say(status);
-    /* What a handle owns does not change if it is used once more. */
-    if (graph.full && dnorm_read_path(&graph, path ? path : "").code != DNORM_WRONG_CALL && path) return 1;
-    if (graph.full != (status.code != DNORM_READ)) return 1;
-    if (file && path) fclose(file);
-    dnorm_free(&graph);
-    return end;
-}
-
 /* The number that the next open file has. */
 static int next_number(void) {
     const int fd = dup(0);
@@ -74,13 +58,27 @@ static int next_number(void) {
     return fd;
 }
 
-static int read_once(const char *path) {
+static int read_by(const char *how, const char *path) {
     dnorm graph = DNORM_NONE;
+    dnorm_arc_lines lines = DNORM_NO_LINES;
+    dnorm_status status = {DNORM_WRONG_CALL, DNORM_NO_PLACE, 0};
+    const bool is_named = !strcmp(how, "path") || !strcmp(how, "lines");
+    FILE *file = is_named ? NULL : path ? fopen(path, "rb") : stdin;
     const int number = next_number();
-    const dnorm_status status = dnorm_read_path(&graph, path);
-    const int end = status.code == DNORM_FINE ? print(&graph) : say(status);
+    int end;
+    if (!strcmp(how, "lines")) status = dnorm_read_lines_path(&graph, &lines, path);
+    else if (is_named) status = dnorm_read_path(&graph, path);
+    else if (!strcmp(how, "file") && file) status = dnorm_read_file(&graph, file);
+    else if (file) status = dnorm_read_fd(&graph, fileno(file));
+    end = status.code == DNORM_FINE ? print(&graph) : say(status);
+    /* What a handle owns does not change if it is used once more. */
+    if (graph.full && dnorm_read_path(&graph, "/dev/null").code != DNORM_WRONG_CALL) return 1;
+    if (graph.full != (status.code != DNORM_READ && status.code != DNORM_ENDLESS)) return 1;
+    if (next_number() != number) return 1;
+    if (file && path) fclose(file);
     dnorm_free(&graph);
-    return next_number() == number ? end : 1;
+    dnorm_arc_lines_free(&lines);
+    return end;
 }
 
 static volatile sig_atomic_t signals_seen;
@@ -190,12 +188,59 @@ static int broken(void) {
     return writes_fail() && ends_early() ? 0 : 1;
 }
 
+/* Prints a star, if its numbers have 64 bits, and returns whether the arcs into each node are right. */
+#define PRINT_STAR(type, index) \
+    static bool print_##type(const type *made, bool is_printed) { \
+        size_t seen = 0; \
+        for (int64_t v = 0; is_printed && v <= (int64_t)made->nodes; v++) printf("%zu ", (size_t)made->first[v]); \
+        for (size_t i = 0; is_printed && i < (size_t)made->arcs; i++) { \
+            printf("\n%" PRId64 " %" PRId64, (int64_t)made->heads[i], (int64_t)made->a[i]); \
+            if (made->b) printf(" %" PRId64 " %" PRId64, (int64_t)made->b[i], (int64_t)made->c[i]); \
+        } \
+        for (int64_t v = 1; v <= (int64_t)made->nodes; v++) { \
+            index last = 0; \
+            for (size_t i = (size_t)made->into_first[v - 1]; i < (size_t)made->into_first[v]; i++, seen++) { \
+                const index arc = made->into[i]; \
+                if (made->heads[arc] != v || (i > (size_t)made->into_first[v - 1] && arc <= last)) return false; \
+                if (made->first[made->tails[arc] - 1] > arc || made->first[made->tails[arc]] <= arc) return false; \
+                last = arc; \
+            } \
+        } \
+        return seen == (size_t)made->arcs && made->into_first[made->nodes] == made->arcs; \
+    }
+PRINT_STAR(dnorm_star, size_t)
+PRINT_STAR(dnorm_star_32, int32_t)
+
+/* Whether a star of 32 bits has the numbers of one of 64 bits, or these do not fit. */
+static bool is_narrowed(const dnorm *graph, uint8_t form, const dnorm_star *wide) {
+    dnorm_star_32 narrow;
+    const uint8_t code = dnorm_star_32_make(graph, form, &narrow).code;
+    bool fits = true, is_right = true;
+    for (size_t i = 0; i < wide->arcs; i++) {
+        const int64_t numbers[] = {wide->a[i], wide->b ? wide->b[i] : 0, wide->c ? wide->c[i] : 0};
+        for (int n = 0; n < 3; n++) fits = fits && numbers[n] == (int32_t)numbers[n];
+    }
+    if (code == DNORM_TOO_WIDE) return !fits && !narrow.first;
+    if (!fits || code != DNORM_FINE || dnorm_star_32_reverse(&narrow).code != DNORM_FINE) return false;
+    for (size_t i = 0; i < wide->arcs; i++) {
+        is_right = is_right && narrow.tails[i] == wide->tails[i] && narrow.heads[i] == wide->heads[i];
+        is_right = is_right && narrow.a[i] == wide->a[i] && !narrow.b == !wide->b;
+        if (wide->b) is_right = is_right && narrow.b[i] == wide->b[i] && narrow.c[i] == wide->c[i];
+    }
+    for (int64_t v = 0; v <= wide->nodes; v++) is_right = is_right && (size_t)narrow.first[v] == wide->first[v];
+    is_right = is_right && print_dnorm_star_32(&narrow, false);
+    dnorm_star_32_free(&narrow);
+    return is_right && !narrow.into;
+}
+
 static int star(uint8_t form) {
     dnorm graph = DNORM_NONE;
     dnorm_star made;
+    bool is_right;
     size_t three[3] = {9, 9, 9};
     dnorm_status status = dnorm_read_fd(&graph, 0);
     if (status.code == DNORM_FINE) status = dnorm_star_make(&graph, form, &made);
+    if (status.code == DNORM_FINE) status = dnorm_star_reverse(&made);
     if (status.code != DNORM_FINE) {
         dnorm_free(&graph);
         return say(status);
@@ -203,31 +248,26 @@ static int star(uint8_t form) {
     /* A room for two numbers has the first two. */
     if (dnorm_first_arcs(&graph, form, three, 2).count != (made.nodes ? 2 : 1) || three[2] != 9) return 1;
     if (made.nodes && three[1] != made.first[1]) return 1;
+    is_right = is_narrowed(&graph, form, &made);
     dnorm_free(&graph);
-    for (int64_t v = 0; v <= made.nodes; v++) printf("%zu ", made.first[v]);
-    for (size_t i = 0; i < made.arcs; i++) {
-        printf("\n%" PRId64 " %" PRId64, made.heads[i], made.a[i]);
-        if (made.b) printf(" %" PRId64 " %" PRId64, made.b[i], made.c[i]);
-    }
+    is_right = print_dnorm_star(&made, true) && is_right;
     puts("");
     dnorm_star_free(&made);
-    return made.first || made.heads;
+    return !is_right || made.first || made.heads;
 }
 
 static int narrow(uint8_t form, size_t room) {
     dnorm graph = DNORM_NONE;
     dnorm_place place = DNORM_FIRST;
     static int32_t columns[4][MANY];
+    const dnorm_arc_columns_32 out = {columns[0], columns[1], columns[2], NULL, columns[3]};
     dnorm_status status = dnorm_read_fd(&graph, 0);
     dnorm_count some = {room, DNORM_FINE};
     while (status.code == DNORM_FINE && some.count == room) {
-        some = dnorm_columns_32(&graph, form, &place, columns[0], room, columns[1], room, columns[2], room, NULL, 0,
-                                columns[3], room / 2);
+        some = dnorm_columns_32(&graph, form, &place, out, room);
         status.code = some.code;
         for (size_t i = 0; i < some.count; i++) {
-            printf("%d %d %d", columns[0][i], columns[1][i], columns[2][i]);
-            if (i < room / 2) printf(" %d", columns[3][i]);
-            puts("");
+            printf("%d %d %d %d\n", columns[0][i], columns[1][i], columns[2][i], columns[3][i]);
         }
     }
     if (status.code == DNORM_TOO_WIDE) {
@@ -244,7 +284,6 @@ int main(int count, char **words) {
     const char *mode = count > 1 ? words[1] : "";
     if (!strcmp(mode, "codes")) return codes();
     if (!strcmp(mode, "read") && count > 2) return read_by(words[2], count > 3 ? words[3] : NULL);
-    if (!strcmp(mode, "once") && count > 2) return read_once(words[2]);
     if (!strcmp(mode, "signals")) return signals();
     if (!strcmp(mode, "broken")) return broken();
     if (!strcmp(mode, "star") && count > 2) return star((uint8_t)atoi(words[2]));

@@ -7,22 +7,21 @@ import re
 import shutil
 
 import pytest
-from builds import GIVEN, PROJECT, by_cmake, need_cmake, refusal_lines, sentences_of, version_of, with_little_memory
+from builds import GIVEN, PROJECT, by_cmake, by_rustc, need_cmake, refusal_lines, sentences_of, version_of
+from builds import with_little_memory
 from known import CANONICAL, FLOWS
 from needs import need, pass_over
 from shared import ROOT, run, said, text_of, write
 
 pytestmark = pytest.mark.whole
 CRATES = f"{ROOT}/share/rust"
-# What dnorm.h and the crate dnorm-sys declare.
-CONSTANT = re.compile(r"\b(DNORM_[A-Z0-9_]+) = (\d+)")
+# What the crate dnorm-sys declares, and what dnorm.h does that the crate must have, too.
 RUST_CONSTANT = re.compile(r"^pub const (DNORM_\w+): \w+ = (\d+);$", re.M)
-DECLARED = re.compile(r"^\w+ (dnorm_\w+)\((.*?)\);$", re.M | re.S)
-RUST_DECLARED = re.compile(r"^    pub fn (dnorm_\w+)\((.*?)\)\s*(?:-> \w+)?;$", re.M | re.S)
-MEMBERS = re.compile(r"^typedef struct \w+ \{\n(.*?)^\} (\w+);$", re.M | re.S)
-RUST_MEMBERS = re.compile(r"^pub struct (\w+) \{\n(.*?)^\}$", re.M | re.S)
-# How Rust names the types of C.
-TYPES = {"uint8_t": "u8", "uint32_t": "u32", "uint64_t": "u64", "int64_t": "i64", "bool": "bool", "size_t": "usize"}
+RUST_FUNCTION = re.compile(r"^    pub fn (dnorm_\w+)\((.*?)\)\s*(?:-> (\w+))?;$", re.M | re.S)
+RUST_STRUCT = re.compile(r"^pub struct (\w+) \{\n(.*?)^\}$", re.M | re.S)
+IN_HEADER = [r"\b(DNORM_[A-Z0-9_]+) = \d+", r"^\w+ (dnorm_\w+)\(.*?\);$", r"^typedef struct \w+ \{\n.*?^\} (\w+);$"]
+# How C names the types of Rust.
+TYPES = {"u8": "uint8_t", "u32": "uint32_t", "u64": "uint64_t", "i64": "int64_t", "usize": "size_t", "c_void": "void"}
 # A scope of Rust may end before the last of its threads does, whose stack memcheck then reports as possibly lost.
 MEMCHECK = ["valgrind", "-q", "--error-exitcode=9", "--leak-check=full", "--errors-for-leak-kinds=definite"]
 MEMCHECK += ["--show-leak-kinds=definite"]
@@ -46,13 +45,9 @@ PROGRAMS[f"{CRATES}/dnorm-sys/build.rs"] = []
 
 # Versions that a project asks for, where the library's is MAJOR.MINOR.x, by whether CMake finds them.
 ASKED = {
-    "{0}.{1}.{2}": True,
-    "{0}.0": True,
-    "{0}.{1}.{2} EXACT": True,
-    "{3}.0": False,
-    "{0}.{4}": False,
+    "{0}.{1}.{2}": True, "{0}.0": True, "{0}.{1}.{2} EXACT": True, "{3}.0": False, "{0}.{4}": False,
     "{0}.999 EXACT": False,
-}
+}  # fmt: skip
 
 
 def test_cmake(c_library: str, folder: str) -> None:
@@ -70,26 +65,36 @@ def test_version_by_cmake(tested: str, c_library: str, folder: str, asked: str, 
     assert (ran.status == 0) == is_found, ran.err.decode()
 
 
-def test_crate_declares() -> None:
-    """The crate dnorm-sys declares the constants, structs and functions of dnorm.h."""
-    header, crate = text_of(f"{ROOT}/c/dnorm.h"), text_of(f"{CRATES}/dnorm-sys/src/lib.rs")
-    wanted = dict(CONSTANT.findall(header)) | {"DNORM_ABI": re.findall(r"DNORM_ABI (\d+)$", header, re.M)[0]}
-    assert dict(RUST_CONSTANT.findall(crate)) == wanted, "constants of dnorm-sys"
-    counts = {name: words.count(",") + (words != "void") for name, words in DECLARED.findall(header)}
-    found = {name: len(re.findall(r"\w+: ", words)) for name, words in RUST_DECLARED.findall(crate)}
-    assert found == counts, "functions of dnorm-sys"
-    structs = {name: members_in_c(text) for text, name in MEMBERS.findall(header)}
-    found_structs = {name: re.findall(r"pub (\w+): (.+),", text) for name, text in RUST_MEMBERS.findall(crate)}
-    assert found_structs == structs, "structs of dnorm-sys"
+def in_c(kind: str) -> str:
+    """Returns the type of C for one of Rust."""
+    if kind.startswith("*"):
+        how, _, to = kind.removeprefix("*").partition(" ")
+        return f"{TYPES.get(to, to)} {'const ' if how == 'const' else ''}*"
+    return TYPES.get(kind, kind)
 
 
-def members_in_c(text: str) -> list[tuple[str, str]]:
-    """Returns the members of a struct, with their types as Rust has them."""
-    found = []
-    for kind, names in re.findall(r"^    (void \*|\w+ )([\w, ]+);$", text, re.M):
-        by_name = kind.strip() if kind.startswith("dnorm_") else "*mut c_void"
-        found += [(it, TYPES.get(kind.strip(), by_name)) for it in names.split(", ")]
-    return found
+def test_crate_declares(c_library: str, folder: str) -> None:
+    """The crate dnorm-sys declares what dnorm.h does before its inline functions: in C, its declarations are none of
+    others."""
+    header, _, _ = text_of(f"{ROOT}/c/dnorm.h").partition("\n}\n#endif\n")
+    crate = text_of(f"{CRATES}/dnorm-sys/src/lib.rs")
+    constants, functions, structs = (it.findall(crate) for it in (RUST_CONSTANT, RUST_FUNCTION, RUST_STRUCT))
+    lines = ["#include <dnorm.h>", "#include <stddef.h>"]
+    lines += [f'_Static_assert({name} == {value}, "{name}");' for name, value in constants]
+    for name, text in structs:
+        members = re.findall(r"pub (\w+): (.+),", text)
+        lines.append(f"struct rust_{name} {{ {' '.join(f'{in_c(kind)} {it};' for it, kind in members)} }};")
+        lines.append(f'_Static_assert(sizeof(struct rust_{name}) == sizeof({name}), "{name}");')
+        for it, kind in members:
+            same = f"offsetof(struct rust_{name}, {it}) == offsetof({name}, {it})"
+            lines.append(f'_Static_assert({same} && _Generic((({name} *)0)->{it}, {in_c(kind)}: 1), "{name}");')
+    for name, words, result in functions:
+        arguments = ", ".join(in_c(it) for it in re.findall(r"\w+: ([^,]+)", words)) or "void"
+        lines.append(f"{in_c(result) or 'void'} ({name})({arguments});")
+    write("crate.c", "\n".join([*lines, ""]))
+    assert run(["cc", "-std=c11", "-fsyntax-only", f"-I{c_library}/include", "crate.c"]) == said()
+    declared = [{it[0] for it in found} - {"DNORM_ABI"} for found in (constants, functions, structs)]
+    assert declared == [{*re.findall(it, header, re.M | re.S)} for it in IN_HEADER], "what dnorm-sys has"
 
 
 @pytest.mark.parametrize("name", ["dnorm", "dnorm-sys"])
@@ -100,20 +105,8 @@ def test_version_of_crate(tested: str, name: str) -> None:
 @pytest.fixture(scope="module")
 def uses(c_library: str, tmp_path_factory: pytest.TempPathFactory) -> str:
     """A program of library.rs and the crates, built by rustc alone. The solver in Rust is beside it."""
-    if not shutil.which("rustc"):
-        # tools/setup does not install Rust.
-        pass_over("rustc")
     folder = str(tmp_path_factory.mktemp("rust"))
-    rustc = ["rustc", "--edition=2021", "-O", "-Dwarnings", "-L", folder, "--out-dir", folder]
-    native = ["-L", f"native={c_library}/lib", "-l", "static=dnorm", "--crate-name", "dnorm_sys"]
-    sys_crate, crate = f"dnorm_sys={folder}/libdnorm_sys.rlib", f"dnorm={folder}/libdnorm.rlib"
-    for words in [
-        ["--crate-type", "rlib", *native, f"{CRATES}/dnorm-sys/src/lib.rs"],
-        ["--crate-type", "rlib", "--crate-name", "dnorm", "--extern", sys_crate, f"{CRATES}/dnorm/src/lib.rs"],
-        ["--extern", crate, f"{ROOT}/tests/library/library.rs"],
-        ["--extern", crate, f"{ROOT}/c/examples/push_relabel.rs"],
-    ]:
-        assert run([*rustc, *words]) == said(), words
+    by_rustc(c_library, folder, f"{ROOT}/tests/library/library.rs", f"{ROOT}/c/examples/push_relabel.rs")
     return f"{folder}/library"
 
 

@@ -5,7 +5,6 @@ library.c tries orders of calls, failing allocations and threads, and counts wha
 inline functions of dnorm_tools.h, and library.cc the classes. valgrind finds no fault in these. The headers compile
 without a warning in each standard, and beside R's macro `dnorm`."""
 
-import bisect
 import ctypes
 import os
 import re
@@ -13,17 +12,15 @@ import shutil
 import subprocess
 
 import pytest
-from bound import FUNCTIONS, WRONG_CALL
-from builds import GIVEN, compiled, refusal_lines, sentences_of, version_of, with_little_memory
+from bound import FUNCTIONS
+from builds import GIVEN, compiled, refusal_lines, sentences_of, solver, version_of, with_little_memory
 from known import CANONICAL, COSTS, FLOWS, ROADS, ROADS_CANON
-from needs import leave_out, need, need_proc, pass_over
-from refusal_table import refusals
+from needs import need, need_proc, pass_over
 from shared import ROOT, run, said, text_of, write
 
 from dnorm.library import ABI
 
 pytestmark = [pytest.mark.whole, pytest.mark.usefixtures("folder")]
-CODE = re.compile(r"^    (DNORM_[A-Z_]+) = (\d+),?$", re.M)
 VERSION, INTERFACE = (re.compile(rf"^#define DNORM_{it} (\d+)$", re.M) for it in ("VERSION", "ABI"))
 DECLARED = re.compile(r"^\w+ (dnorm_\w+)\(", re.M)
 SOURCES = f"{ROOT}/tests/library"
@@ -67,30 +64,27 @@ dnorm_count (dnorm_next)(const dnorm *it, uint8_t form, dnorm_place *place, dnor
     wrong += !out;
     return none;
 }
-dnorm_count (dnorm_columns)(const dnorm *it, uint8_t form, dnorm_place *place, int64_t *tails, size_t tails_room,
-                            int64_t *heads, size_t heads_room, int64_t *a, size_t a_room, int64_t *b, size_t b_room,
-                            int64_t *c, size_t c_room) {
-    wrong += !tails + !heads + !a + !b + !c;
-    return none;
-}
 dnorm_count (dnorm_items)(const dnorm *it, dnorm_place *place, dnorm_item *out, size_t room) {
     wrong += !out;
     return none;
 }
 dnorm_status (dnorm_canon)(const dnorm *it, uint8_t form, dnorm *text) { wrong += it == text; return fine; }
-dnorm_count (dnorm_text)(const dnorm *it, size_t from, uint8_t *out, size_t room) { wrong += !out; return none; }
-dnorm_count (dnorm_name)(const dnorm *it, uint8_t *out, size_t room) { wrong += !out; return none; }
-void (dnorm_free)(dnorm *it) { wrong += !it; }
+dnorm_count (dnorm_text)(dnorm *it, size_t from, uint8_t *out, size_t room) { wrong += !out; return none; }
+dnorm_lines_given (dnorm_lines)(dnorm *it, const uint8_t *bytes, size_t length, dnorm_row *out, size_t room) {
+    static const dnorm_lines_given nothing;
+    wrong += !bytes + !out;
+    return nothing;
+}
 int main(void) {
     dnorm it = DNORM_NONE;
     dnorm_place place = DNORM_FIRST;
+    const dnorm_arc_columns columns = {NULL, NULL, NULL, NULL, NULL};
     dnorm_feed(&it, NULL, 0);
     dnorm_next(&it, 1, &place, NULL, 0);
-    dnorm_columns(&it, 1, &place, NULL, 0, NULL, 0, NULL, 0, NULL, 0, NULL, 0);
+    dnorm_columns(&it, 1, &place, columns, 0);
     dnorm_items(&it, &place, NULL, 0);
     dnorm_text(&it, 0, NULL, 0);
-    dnorm_name(&it, NULL, 0);
-    dnorm_free(NULL);
+    dnorm_lines(&it, NULL, 0, NULL, 0);
     return wrong + (dnorm_canon(&it, 1, &it).code != DNORM_WRONG_CALL);
 }
 """
@@ -99,11 +93,8 @@ OTHER = "int other(void);\nint other(void) {\n    return dnorm_code_name(1)[0];\
 # Statements of C++, with what does not compile in them and what does; `text` is a std::string_view, `name` a
 # std::string, `chars` an array, `path` a std::filesystem::path and `graph` a const Instance.
 WRONG = {
-    "arcs that outlive an instance": (
-        "for (auto &it : std::make_unique<Instance>(text)->{}) (void)it;",
-        "each_arc()",
-        "arcs()",
-    ),
+    "arcs that outlive an instance": ("for (auto &it : std::make_unique<Instance>(text)->{}) (void)it;", "each_arc()",
+                                      "arcs()"),
     "a literal as a text": ("Instance it{{{}}};", '"roads.gr"', 'dnorm_cpp::Path("roads.gr")'),
     "an array as a text": ("Instance it{{{}}};", "chars", "std::string_view(chars)"),
     "a string as a text": ("Instance it{{{}}};", "name", "std::string_view(name)"),
@@ -115,7 +106,7 @@ WRONG = {
     "a change of a const instance": ("{};", "graph = Instance(text)", "graph.columns()"),
     "a copy": ("Instance it({});", "graph", "text"),
     "a handle without const": ("const dnorm_handle it = DNORM_NONE; {};", "dnorm_free(&it)", "dnorm_facts(&it)"),
-}
+}  # fmt: skip
 # A plugin that uses the archive, and exports one function.
 PLUGIN = """
 #include <dnorm.h>
@@ -130,8 +121,12 @@ int plugin_reads(const char *text, size_t length) {
 """
 # Texts, and the forward star and the columns of 32 bits that library_tools.c prints, in form 1 in ranges of 2.
 STARS = {
-    ROADS: ("0 1 4 5 \n2 3\n1 4\n2 0\n3 9\n1 -5\n", "1 2 3 0\n2 1 4\n2 2 0 0\n2 3 9\n3 1 -5 0\n", 0),
-    COSTS: ("0 5 5 \n2 1 1 1\n2 1 1 2\n2 0 2 0\n2 0 4 1\n2 0 1 3\n", "1 2 1 1\n1 2 1\n1 2 0 0\n1 2 0\n1 2 0 3\n", 0),
+    ROADS: ("0 1 4 5 \n2 3\n1 4\n2 0\n3 9\n1 -5\n", "1 2 3 0\n2 1 4 0\n2 2 0 0\n2 3 9 0\n3 1 -5 0\n", 0),
+    COSTS: (
+        "0 5 5 \n2 1 1 1\n2 1 1 2\n2 0 2 0\n2 0 4 1\n2 0 1 3\n",
+        "1 2 1 1\n1 2 1 2\n1 2 0 0\n1 2 0 1\n1 2 0 3\n",
+        0,
+    ),
     b"p sp 4 1\na 3 1 2147483648\n": (
         "0 0 0 1 1 \n1 2147483648\n",
         "3 1 2147483648: 41 TooWide: A number does not fit 32 bits.\n",
@@ -139,24 +134,27 @@ STARS = {
     ),
     b"p sp 4 3\na 3 1 2147483647\na 4 1 -2147483648\na 4 2 -2147483649\n": (
         "0 0 0 1 3 \n1 2147483647\n1 -2147483648\n2 -2147483649\n",
-        "3 1 2147483647 0\n4 1 -2147483648\n4 2 -2147483649: 41 TooWide: A number does not fit 32 bits.\n",
+        "3 1 2147483647 0\n4 1 -2147483648 0\n4 2 -2147483649: 41 TooWide: A number does not fit 32 bits.\n",
         2,
     ),
     b"p max 0 0\n": ("end: 19 MissingTerminal: A max file has no source or no sink.\n",) * 2 + (2,),
     b"p sp 0 0\n": ("0 \n", "", 0),
     b"p aux sp ss 0\n": ("40 WrongCall: The handle is not for this call.\n",) * 2 + (2,),
-}
+}  # fmt: skip
 
 
-# The compilers of the solvers in c/examples, and texts with what the solvers print and their status; FULL is a standard
-# output that takes nothing.
+# Texts of the solvers in c/examples, with what these print and their status; FULL is a standard output that takes
+# nothing.
 FULL = "/dev/full"
-COMPILERS = {"dijkstra.c": ["cc", "-std=c99"], "least_cost.cc": ["c++", "-std=c++17"]}
 UNMET = b"p min 2 1\nn 1 %d\nn 2 %d\na 1 2 0 4 2\n"
 SOLVED = [
     ("dijkstra.c", ROADS.replace(b" -5", b" 5"), "-", b"node 2, distance 3\nnode 1, distance 0\n", 0),
     ("dijkstra.c", ROADS.replace(b" -5", b" 5"), FULL, b"", 4),
-    ("least_cost.cc", UNMET % (2, -2), "-", b"least cost 4\nflow 1 2 2\n", 0),
+    ("cost_scaling.c", UNMET % (2, -2), "-", b"s 4\nf 1 2 2\n", 0),
+    ("cost_scaling.c", UNMET % (2, -2), FULL, b"", 4),
+    ("cost_scaling.c", UNMET % (2, -1), "-", b"there is no flow\n", 1),
+    ("cost_scaling.c", UNMET % (5, -5), "-", b"there is no flow\n", 1),
+    ("least_cost.cc", UNMET % (2, -2), "-", b"s 4\nf 1 2 2\n", 0),
     ("least_cost.cc", UNMET % (2, -2), FULL, b"", 4),
     ("least_cost.cc", UNMET % (2, -1), "-", b"no flow\n", 1),
     ("least_cost.cc", UNMET % (1, -2), "-", b"no flow\n", 1),
@@ -164,14 +162,11 @@ SOLVED = [
 
 # What library.c does: its arguments, what it prints, and what watches it.
 CALLS = [
-    ("orders 5", f"{11**5} orders\n", []),
-    ("orders 3", f"{11**3} orders\n", ["memcheck"]),
-    ("memory", "", ["memcheck"]),
-    ("threads", "kind 1 15 15 15 15\n", ["memcheck", "helgrind"]),
-    ("readers 100000", "0 wrong\n", []),
-    ("readers 200", "0 wrong\n", ["memcheck", "helgrind"]),
+    ("orders 5", f"{11**5} orders\n", []), ("orders 3", f"{11**3} orders\n", ["memcheck"]),
+    ("memory", "", ["memcheck"]), ("threads", "kind 1 15 15 15 15\n", ["memcheck", "helgrind"]),
+    ("readers 100000", "0 wrong\n", []), ("readers 200", "0 wrong\n", ["memcheck", "helgrind"]),
     ("nulls", "right\n", ["memcheck"]),
-]
+]  # fmt: skip
 # Headers, by compilers and standards, and what stands beside them.
 COMPILED = [
     (compiler, standard, header)
@@ -179,13 +174,6 @@ COMPILED = [
     for header in headers
     for standard in (FOR_CLASSES if header == "dnorm.hpp" else standards)
 ]
-
-
-def test_codes() -> None:
-    """dnorm.h has the codes of the table of refusals."""
-    codes = CODE.findall(header().partition("DNORM_FINE = 0,\n")[2].partition("};")[0])
-    wanted = [(it.constant, str(it.number)) for it in refusals() if it.constant]
-    assert codes == [*wanted, ("DNORM_WRONG_CALL", str(WRONG_CALL))]
 
 
 def header() -> str:
@@ -359,17 +347,14 @@ def test_wrong_use(c_library: str, name: str) -> None:
 
 
 @pytest.mark.parametrize("name, text, to, out, status", SOLVED)
-def test_solvers(c_library: str, name: str, text: bytes, to: str, out: bytes, status: int) -> None:
+def test_solvers(c_library: str, folder: str, name: str, text: bytes, to: str, out: bytes, status: int) -> None:
     """The solvers of c/examples say that there is no flow, and that their output failed."""
-    if name == "least_cost.cc" and not os.path.exists("/usr/include/lemon/network_simplex.h"):
-        leave_out("LEMON")
-    words = [f"-I{c_library}/include", "-o", "solve", f"{ROOT}/c/examples/{name}", f"{c_library}/lib/libdnorm.a"]
-    compiled(*COMPILERS[name], *words)
+    made = solver(name, c_library, folder)
     write("text", text)
     write("points", b"p aux sp co 0\n")
     others = ["points", "1", "2"] if name == "dijkstra.c" else []
     shell = ["sh", "-c", f'exec "$@" > {FULL}', "sh"] if to == FULL else []
-    ran = run([*shell, "./solve", "text", *others])
+    ran = run([*shell, made, "text", *others])
     assert (ran.out, ran.status, ran.err != b"") == (out, status, to == FULL)
 
 
@@ -399,6 +384,7 @@ def test_sentences(tools: str, tested: str) -> None:
     sentences = sentences_of(tested)
     sentences |= {0: "Fine: The call did what it is for.", 40: "WrongCall: The handle is not for this call."}
     sentences[41] = "TooWide: A number does not fit 32 bits."
+    sentences[42] = "NotAFlow: The units of a pair are not between its lower bounds and capacities."
     assert run([tools, "codes"]) == said("".join(f"{it} {sentences.get(it, 'Unknown: ')}\n" for it in range(256)))
 
 
@@ -417,20 +403,27 @@ def test_star(tools: str, text: bytes) -> None:
     assert run([tools, "narrow", "1", "2"], text) == said(columns, status=status), "columns of 32 bits"
 
 
-def star_of(canonical: bytes) -> str:
-    """Returns what library_tools.c prints of the forward star of a canonical text of a graph."""
-    rows = [it.split() for it in canonical.decode().splitlines()]
-    arcs = [it[1:] for it in rows if it[0] == "a"]
-    tails = [int(it[0]) for it in arcs]
-    first = "".join(f"{bisect.bisect_right(tails, node)} " for node in range(int(rows[0][2]) + 1))
-    return "\n".join([first, *(" ".join(it[1:]) for it in arcs), ""])
+def test_endless(c_library: str, folder: str, tested: str) -> None:
+    """A file without an end is read no more often than DNORM_READS says, and one with an end to that."""
+    words = [f"-I{c_library}/include", "-o", "tools", f"{SOURCES}/library_tools.c", f"{c_library}/lib/libdnorm.a"]
+    compiled("cc", "-std=c99", "-DDNORM_READS=20", *words)
+    ended = said(f"32 {sentences_of(tested)[32]}\n", status=2)
+    for how in ["fd", "file", "path", "lines"]:
+        assert run(["./tools", "read", how, "/dev/zero"]) == ended, how
+    assert run(["./tools", "read", "fd"], ROADS) == said(ROADS_CANON)
 
 
-def test_forms_of_stars(tools: str) -> None:
-    for text, forms in GIVEN:
-        if re.match(rb"p (min|max|sp) \d{1,5} ", forms[0]):
-            for form, canonical in enumerate(forms, 1):
-                assert run([tools, "star", str(form)], text) == said(star_of(canonical)), f"{text!r:.60}"
+def test_alone(c_library: str) -> None:
+    """The archive needs the C library alone, and no functions of a compiler; and a machine of 64 bits."""
+    write("alone.c", f"#include <dnorm.h>\n{USES}")
+    need("cc")
+    words = ["cc", "-std=c99", f"-I{c_library}/include"]
+    linked = ["-o", "alone", "-nodefaultlibs", "alone.c", f"{c_library}/lib/libdnorm.a", "-lc"]
+    assert run([*words, *linked]) == said()
+    assert run(["./alone"]) == said()
+    write("narrow.c", f"#include <stdint.h>\n#undef SIZE_MAX\n#define SIZE_MAX 0xffffffffU\n#include <dnorm.h>\n{USES}")
+    ran = run([*words, "-fsyntax-only", "narrow.c"])
+    assert ran.status == 1 and b"libdnorm needs a compiler for a machine of 64 bits" in ran.err
 
 
 def test_large_star(tools: str, tested: str) -> None:
@@ -439,7 +432,7 @@ def test_large_star(tools: str, tested: str) -> None:
     many = b"p sp 600 1200\n" + b"".join(b"a %d %d %d\n" % (it // 2, it % 2 + 1, it) for it in range(2, 1202))
     ran = run([tools, "star", "2"], many).out.decode().splitlines()
     assert ran[0] == " ".join(str(2 * it) for it in range(601)) + " "
-    rows = "".join(f"{it // 2} {it % 2 + 1} {it}{' 0' if it < 702 else ''}\n" for it in range(2, 1202))
+    rows = "".join(f"{it // 2} {it % 2 + 1} {it} 0\n" for it in range(2, 1202))
     assert run([tools, "narrow", "1", "1400"], many) == said(rows), "columns of 1200 arcs"
 
 
@@ -447,7 +440,7 @@ def is_kept(fifo: str, tools: str) -> bool:
     """Whether a file that is read by its name would not be passed on to another program, and is closed. It is a pipe
     with a name, so that it is open until the text is written."""
     os.mkfifo(fifo)
-    with subprocess.Popen([tools, "once", fifo], stdout=subprocess.PIPE) as process:
+    with subprocess.Popen([tools, "read", "path", fifo], stdout=subprocess.PIPE) as process:
         with open(fifo, "wb") as text:
             folder = f"/proc/{process.pid}"
             own: list[str] = []

@@ -9,17 +9,18 @@ import os
 import random
 import time
 from collections.abc import Callable
+from functools import partial
 from typing import Any
 
 import pytest
-from bound import KINDS, NOT_BOTH, WRONG_CALL, Answer, Arc, Item, Library, WrongCall
+from bound import KINDS, NOT_BOTH, WRONG_CALL, Answer, Arc, Item, Library, Row, WrongCall
 from known import CANONICAL, COMPARED, COSTS, FITTED, FLOWS, REFUSED, ROADS
 from needs import seeds
 from reading import COUNTED, NAMES
 from shared import Quick
 from texts import lines_of, made, spelled, spoilt
 
-from dnorm.library import ABI, Handle, Place
+from dnorm.library import ABI, Handle, Place, number_of
 
 pytestmark = pytest.mark.whole
 # The random texts and orders of calls of each seed, the calls of an order, and the places of each text.
@@ -45,10 +46,6 @@ def library(request: pytest.FixtureRequest) -> Library:
     """The shared library, or one for another processor, if a variable names it."""
     path = os.environ.get("DNORM_TESTED_LIBRARY")
     return Library(path or f"{request.getfixturevalue('c_library')}/lib/libdnorm.so.{ABI}")
-
-
-def test_interface(library: Library) -> None:
-    assert library.abi() == ABI
 
 
 def lines_from(library: Library, handle: Handle, form: int, room: int) -> bytes:
@@ -81,32 +78,21 @@ def test_canonical(library: Library, text: bytes, forms: list[bytes], size: int 
         ranges(library, handle, form, room)
     facts = library.facts(handle)
     assert facts.items == len(library.items_of(handle, room)), f"the items of {text!r}"
-    assert library.name_of(handle, room) == KINDS[facts.kind][:room], f"the name of {text!r}"
     library.free(handle)
 
 
 def ranges(library: Library, handle: Handle, form: int, room: int) -> None:
-    """Ranges and columns of some size have the arcs that another range has. A companion has none."""
+    """Ranges of some size have the arcs that another range has. A companion has none."""
     if KINDS[library.facts(handle).kind] not in NUMBERS:
         calls: list[Callable[[], object]] = [
             lambda: library.arcs(handle, form, room),
             lambda: library.arcs_counted(handle, form),
-            lambda: library.columns_of(handle, form, [room] * 5),
         ]
-        assert [answered(it) for it in calls] == [WRONG_CALL] * 3, "arcs of a companion"
+        assert [answered(it) for it in calls] == [WRONG_CALL] * 2, "arcs of a companion"
         return
     arcs = library.arcs(handle, form, 7)
     assert library.arcs_counted(handle, form) == len(arcs), f"how many arcs there are in form {form}"
     assert library.arcs(handle, form, room) == arcs, f"ranges of {room} in form {form}"
-    columns = [[arc[i] for arc in arcs] for i in range(5)]
-    assert library.columns_of(handle, form, [room] * 5) == columns, f"columns of {room} in form {form}"
-    # Columns with less room, or none, have their part of each range.
-    short = room // 2
-    parts = [[it for i, it in enumerate(column) if i % room < short] for column in columns]
-    some = library.columns_of(handle, form, [room, short, short, 0, 0])
-    assert some == [columns[0], *parts[1:3], [], []], f"short columns of {room} in form {form}"
-    some = library.columns_of(handle, form, [0, room, 0, short, 0])
-    assert some == [[], columns[1], [], parts[3], []], f"columns of {room} without tails in form {form}"
 
 
 def answered(call: Callable[[], object]) -> object:
@@ -162,28 +148,39 @@ def one_pair(count: int) -> bytes:
     return b"p min 2 %d\n" % count + arcs
 
 
+def points(count: int) -> bytes:
+    """Returns a text of points whose IDs are dense, and then far apart."""
+    ids = [it if it < count // 2 else it * 1000 for it in range(1, count + 1)]
+    return b"p aux sp co %d\n" % count + b"".join(b"v %d %d 0\n" % (it, -it) for it in ids)
+
+
+def supplies(count: int) -> bytes:
+    """Returns a text of nodes with flows that are not 0 for every second one."""
+    nodes = b"".join(b"n %d %d\n" % (it, it % 2) for it in range(1, 2 * count + 1))
+    return b"p min %d 0\n" % (2 * count) + nodes
+
+
 @pytest.mark.alone
-def test_many_of_a_pair(library: Library) -> None:
-    """Arcs of one pair are copied whole in rooms of many sizes, and that this takes no more time for each
-    arc where there are more. Processor time is compared, the least of several rounds."""
+@pytest.mark.parametrize("text", [one_pair, points, supplies], ids=["arcs", "points", "supplies"])
+def test_many(library: Library, text: Callable[[int], bytes]) -> None:
+    """Arcs of one pair, points and supplies are copied whole in rooms of many sizes, and where there are more, this
+    takes no more time for each. Processor time is compared, the least of several rounds."""
     times = []
     for count in MANY:
-        handle = copy_of(library, one_pair(count))
-        wanted = [(1, 2, 0, 1, it) for it in range(count)]
-        for room in [1, 64, 65536]:
-            assert library.arcs(handle, 2, room) == wanted, f"{count} arcs in rooms of {room}"
-            columns = library.columns_of(handle, 1, [room, 0, 0, 0, room])
-            assert columns[4] == [*range(count)], f"{count} arcs by columns of {room}"
-        columns_of_all = (ctypes.c_int64 * count)()
+        handle = copy_of(library, text(count))
+        copy = partial(library.arcs, handle, 2) if text is one_pair else partial(library.items_of, handle)
+        wanted = copy(count + 1)
+        assert len(wanted) == count and wanted == sorted(wanted)
+        for room in [3, 64, 65536]:
+            assert copy(room) == wanted, f"{count} in rooms of {room}"
         rounds = []
-        for _ in range(5):
+        for _ in range(3):
             began = time.process_time()
-            none = [ctypes.byref(columns_of_all), 0]
-            library.columns(handle, 1, ctypes.byref(Place()), *none * 4, ctypes.byref(columns_of_all), count)
+            assert copy(1) == wanted
             rounds.append(time.process_time() - began)
         times.append(min(rounds))
         library.free(handle)
-    assert times[1] < 10 * times[0], f"{MANY} arcs of one pair by columns in {times} s"
+    assert times[1] < 10 * times[0], f"{MANY} one by one in {times} s"
 
 
 @pytest.mark.parametrize("text, err", REFUSED, ids=[err.decode().strip() for _, err in REFUSED])
@@ -194,15 +191,7 @@ def test_refused(library: Library, text: bytes, err: bytes) -> None:
     for piece in [1, 5, len(text) or 1]:
         handle = Handle()
         assert library.read(handle, text, piece) == wanted, f"{text!r} is refused"
-        assert library.name_of(handle, 32) == told.split()[1], f"the refusal of {text!r}"
         library.free(handle)
-    handle = Handle()
-    library.begin(handle)
-    if library.feed(handle, text, len(text)).code:
-        assert library.name_of(handle, 32) == told.split()[1], f"the refusal of {text!r} before its end"
-    else:
-        assert answered(lambda: library.name_of(handle, 32)) == WRONG_CALL, f"no refusal of {text!r} yet"
-    library.free(handle)
 
 
 @pytest.mark.parametrize("left, right, there, back", COMPARED, ids=[it[2].decode().strip() for it in COMPARED])
@@ -223,7 +212,7 @@ def test_compared(library: Library, left: bytes, right: bytes, there: bytes, bac
 
 def line_of(found: Any, kind: str) -> str:
     """Returns the line of `compare` for a difference of two instances, the left one of this kind."""
-    numbers = [found.left.number(), found.right.number()]
+    numbers = [number_of(found.left), number_of(found.right)]
     values = ["none" if it is None else str(it) for it in numbers]
     if found.what == 1:
         values = [KINDS[it] for it in numbers]
@@ -360,21 +349,24 @@ class Model:
         found = answered(lambda: len(self.library.arcs(self.handles[at], 1, 2)))
         return found, 5 if self.held[at] == "instance" else WRONG_CALL
 
-    def call_columns(self, _: random.Random, at: int, __: int) -> tuple[Any, Any]:
-        found = answered(lambda: len(self.library.columns_of(self.handles[at], 1, [2, 2, 1, 0, 2])[0]))
-        return found, 5 if self.held[at] == "instance" else WRONG_CALL
-
     def call_fits(self, _: random.Random, at: int, to: int) -> tuple[Any, Any]:
         both = self.held[at] == self.held[to] == "instance"
         return self.library.fits(self.handles[at], self.handles[to]).code, 36 if both else NOT_BOTH
 
-    def call_name(self, _: random.Random, at: int, __: int) -> tuple[Any, Any]:
-        names = {ROADS: "sp", FLOWS: "min", b"": "NoProblem"}
-        names |= {b"p sp 1 1\nq\n": "WrongLine", b"p sp 1 1\n": "TooFewLines"}
-        is_refused = self.held[at] == "reader" and 0 < self.expected.get(self.texts[at], 0) < 18
-        has_name = is_refused or self.held[at] in ("instance", "refusal")
-        wanted = names[self.texts[at]] if has_name else WRONG_CALL
-        return answered(lambda: self.library.name_of(self.handles[at], 20)), wanted
+    def call_lines_begin(self, _: random.Random, at: int, __: int) -> tuple[Any, Any]:
+        wanted = 0 if self.held[at] == "nothing" else WRONG_CALL
+        if wanted == 0:
+            self.held[at] = "lines"
+        return self.library.lines_begin(self.handles[at]).code, wanted
+
+    def call_lines(self, _: random.Random, at: int, __: int) -> tuple[Any, Any]:
+        # Each text begins anew, so that a second problem line follows the first arc.
+        out = (Row * 3)()
+        found = self.library.lines(self.handles[at], b"p sp 1 1\na 1 1 5\n", 17, ctypes.byref(out), 3)
+        if self.held[at] != "lines":
+            return (found.code, found.used, found.count, found.line), (WRONG_CALL, 0, 0, 0)
+        self.texts[at] += b"a"
+        return (found.code, found.used, found.count), (0, 17, 1) if self.texts[at] == b"a" else (3, found.used, 0)
 
     def call_free(self, _: random.Random, at: int, __: int) -> tuple[Any, Any]:
         self.library.free(self.handles[at])
@@ -395,3 +387,16 @@ def test_orders(library: Library, seed: int) -> None:
             assert found == wanted, " ".join(names)
         for it in model.handles:
             library.free(it)
+
+
+@pytest.mark.parametrize("piece", [1, 7, 4096])
+@pytest.mark.parametrize("room", [1, 3, 1000])
+def test_arc_lines(library: Library, piece: int, room: int) -> None:
+    """The arc lines of a text are handed out in its order, with their line numbers, up to a fault of a line."""
+    text = b"c x\np min 2 3\nn 1 1\nn 2 -1\n\na 2 1 0 3 -5\na 1 2 1 +3 5 \r\nc a 1 2 3 4 5\na 1  2 0 3 4"
+    rows = [(6, 2, 1, 0, 3, -5), (7, 1, 2, 1, 3, 5), (9, 1, 2, 0, 3, 4)]
+    assert library.arc_lines(text, piece, room) == (rows, 0, 0)
+    assert library.arc_lines(text.replace(b"c a", b"x a"), piece, room) == (rows[:2], 1, 8)
+    assert library.arc_lines(text + b" 9", piece, room) == (rows[:2], 8, 9)
+    for kind, arcs in ((b"max", [(2, 1, 2, 7, 0, 0)]), (b"sp", [(2, 1, 2, 7, 0, 0)]), (b"aux", [])):
+        assert library.arc_lines(b"p %s 2 1\na 1 2 7" % kind, piece, room)[0] == arcs

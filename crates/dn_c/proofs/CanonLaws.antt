@@ -1,29 +1,20 @@
 -- Lemmas that calls get the canonical instance out of a parsed instance.
 use Rattle.std.proofs.Common.{◌≡◌, ◌<◌, ℕ, ℤ, zero, suc, List, [], ◌∷◌, ◌++◌, length, map, take, drop, flat_map, append-nil, Ok, refl, sym, ap, ◌∙◌, arith}
 use Rattle.dn_arc.specs.Kinds.{costs, capacities, lengths}
-use Rattle.dn_arc.specs.declared.arc.CapArc.{CapArc}
-use Rattle.dn_arc.specs.declared.arc.CostArc.{CostArc}
 use Rattle.dn_arc.specs.declared.arc.Form.{Form}
-use Rattle.dn_arc.specs.declared.arc.LengthArc.{LengthArc}
 use Rattle.dn_arc.proofs.CostKindLaws.{cost_kind}
 use Rattle.dn_arc.proofs.LengthKindLaws.{length_kind, length_canonical, length_fit}
 use Rattle.dn_arc.proofs.SoundLaws.{sound_canonical, sound_same, sound_fit}
 use Rattle.dn_arc.proofs.TotalKindLaws.{total_kind, total_canonical, total_fit}
-use Rattle.dn_arc.specs.State.Curves.{CurveNumbers}
 use Rattle.dn_bundle.specs.State.Listings.{least_arcs, total_arcs, curve_arcs}
-use Rattle.dn_bundle.specs.declared.least.Least.{Least}
-use Rattle.dn_bundle.specs.declared.total.Total.{Total}
-use Rattle.dn_table.specs.State.Tables.{TableStandsFor}
-use Rattle.dn_arc.specs.declared.arc.Form.TheVariants.{One}
-use Rattle.dn_instance.specs.Instances.{Graph, Instance, MinCostFlow, MaxFlow, ShortestPaths, Sources, Queries, Coordinates}
+use Rattle.dn_instance.specs.Instances.{Instance, MinCostFlow, MaxFlow, ShortestPaths, Sources, Queries, Coordinates}
 use Rattle.dn_instance.specs.State.Helds.{Bundles, Contents, Parsed, OfHeld, OfMin, OfMax, OfSp, OfSs, OfP2p, OfCo, Shows}
 use Rattle.dn_instance.specs.State.ReaderResults.{Outcome}
 use Rattle.dn_instance.specs.Texts.{Reads}
-use Rattle.dn_instance.specs.Validity.{IsValid, IsValidGraph}
+use Rattle.dn_instance.specs.Validity.{IsValid}
 use Rattle.dn_instance.proofs.SameLaws.{refl_of}
 use Rattle.dn_instance.proofs.ValidLaws.{reads_valid, some_is}
 use Rattle.dn_canon.specs.CanonInstances.{IsCanonInstanceOf}
-use Rattle.dn_canon.specs.State.CanonGraphs.{IsCanonGraphOf}
 use Rattle.dn_canon.specs.State.ListedArcs.{listed_arcs, listed_graph}
 use Rattle.dn_canon.proofs.ListedLaws.{listed_canon, min_canon, max_canon}
 use Rattle.dn_c.specs.State.CanonCopies.{Call, Walks, copied, first_place, GivesOut}
@@ -31,7 +22,7 @@ use Rattle.dn_c.specs.State.Items.{flow_item, point_item, id_item, pair_item}
 use Rattle.dn_c.specs.State.Outputs.{CopiesNone}
 use Rattle.dn_c.specs.State.Places.{cost_at, cap_at, length_at}
 use Rattle.dn_c.specs.State.Rows.{rows_by}
-use Rattle.dn_c.specs.State.Walks.{CopiesFrom, HasRows, IsLeftAfter}
+use Rattle.dn_c.specs.State.Walks.{CopiesFrom, IsLeftAfter}
 use Rattle.dn_c.specs.declared.arcs.Arc.{Arc}
 use Rattle.dn_c.specs.declared.place.Place.{Place}
 use Rattle.dn_c.specs.declared.status.Count.{Count}
@@ -54,7 +45,7 @@ module _ {B A : Type 0} (numbers : A → List ℤ) (lists : B → List A) (arc :
   -- the call copies arcs of the table after the place
   abbrev Copies : Place → Call → Type 0
   Copies place call =
-      CopiesFrom numbers lists arc table place call.place (length call.old) (HasRows call.new) call.result
+      CopiesFrom numbers lists arc table place call.place (length call.old) call.new call.result
 
   abbrev Left : Place → List Arc → Type 0
   Left = IsLeftAfter numbers lists arc table
@@ -84,7 +75,7 @@ module _ {B A : Type 0} (numbers : A → List ℤ) (lists : B → List A) (arc :
 
 -- calls on a companion copy no arcs
 abbrev CopiesNothing : Place → Call → Type 0
-CopiesNothing place call = CopiesNone place call.place (call.new ≡ call.old) call.result
+CopiesNothing place call = CopiesNone place call.place call.old call.new call.result
 
 none_copied : (place : Place) (calls : List Call) → Walks CopiesNothing place calls → flat_map copied calls ≡ []
 none_copied place [] w = absurd w
@@ -95,30 +86,6 @@ none_copied place (call ∷ next ∷ rest) w =
     ∙ none_copied call.place (next ∷ rest) w.1
 
 module _ (form : Form) where
-  -- the arcs that a table lists make the canonical graph of the graph that it represents
-  lengths_canon : (table : Bundles Least) (G : Graph LengthArc) → TableStandsFor lengths least_arcs table G.arcs
-      → IsValidGraph lengths G → IsCanonGraphOf lengths form (listed_graph least_arcs G.nodes table) G
-  lengths_canon table G t valid =
-      listed_canon length_kind (λ f. least_arcs) (λ f b. length_canonical b.length)
-      (λ b. length_kind.meaning.same_refl (least_arcs b)) (λ f b. length_fit b.length b.fits) form G.nodes table G refl
-      t.rising t.lists_them.stands valid
-
-  capacities_canon : (table : Bundles Total) (G : Graph CapArc) → TableStandsFor capacities total_arcs table G.arcs
-      → IsValidGraph capacities G → IsCanonGraphOf capacities form (listed_graph total_arcs G.nodes table) G
-  capacities_canon table G t valid =
-      listed_canon total_kind (λ f. total_arcs) (λ f b. total_canonical b.total b.some)
-      (λ b. total_kind.meaning.same_refl (total_arcs b)) (λ f b. total_fit b.total b.some b.most) form G.nodes table G
-      refl t.rising t.lists_them.stands valid
-
-  costs_canon : (table : Bundles CurveNumbers) (G : Graph CostArc)
-      → TableStandsFor costs (curve_arcs One) table G.arcs → IsValidGraph costs G
-      → IsCanonGraphOf costs form (listed_graph (curve_arcs form) G.nodes table) G
-  costs_canon table G t valid =
-      listed_canon cost_kind curve_arcs (λ f b. sound_canonical b.units b.cost b.total b.steps b.sound f)
-      (λ b. sound_same b.units b.cost b.total b.steps b.sound)
-      (λ f b. sound_fit b.units b.cost b.total b.steps b.sound f) form G.nodes table G refl t.rising
-      t.lists_them.stands valid
-
   -- the canonical instance of I is what calls get out of the contents
   abbrev GivesCanon : Contents → Instance → Type 0
   GivesCanon contents I = (J : Instance) × IsCanonInstanceOf form J I × GivesOut form contents J
@@ -126,7 +93,11 @@ module _ (form : Form) where
   by_contents : (contents : Contents) (I : Instance) → IsValid I → Shows contents I → GivesCanon contents I
   by_contents (OfMin flows table) (MinCostFlow supplies G) valid s = (
     MinCostFlow supplies (listed_graph (curve_arcs form) G.nodes table),
-    min_canon form supplies G _ (costs_canon table G s.1 valid.0) valid.1,
+    min_canon form supplies G _ (listed_canon cost_kind curve_arcs
+        (λ f b. sound_canonical b.units b.cost b.total b.steps b.sound f)
+        (λ b. sound_same b.units b.cost b.total b.steps b.sound)
+        (λ f b. sound_fit b.units b.cost b.total b.steps b.sound f) form G.nodes table G refl s.1.rising
+        s.1.lists_them.stands valid.0) valid.1,
     record {
       first = begins costs.numbers (curve_arcs form) cost_at table;
       walk = walk_first costs.numbers (curve_arcs form) cost_at table;
@@ -135,7 +106,9 @@ module _ (form : Form) where
   )
   by_contents (OfMax source sink table) (MaxFlow a b G) valid s = (
     MaxFlow a b (listed_graph total_arcs G.nodes table),
-    max_canon form a b G _ (capacities_canon table G s.2 valid.0) valid.1,
+    max_canon form a b G _ (listed_canon total_kind (λ f. total_arcs) (λ f b. total_canonical b.total b.some)
+        (λ b. total_kind.meaning.same_refl (total_arcs b)) (λ f b. total_fit b.total b.some b.most) form G.nodes table G
+        refl s.2.rising s.2.lists_them.stands valid.0) valid.1,
     record {
       first = begins capacities.numbers total_arcs cap_at table;
       walk = walk_first capacities.numbers total_arcs cap_at table;
@@ -143,7 +116,9 @@ module _ (form : Form) where
     },
   )
   by_contents (OfSp table) (ShortestPaths G) valid s =
-      let canon = lengths_canon table G s valid in (
+      let canon = listed_canon length_kind (λ f. least_arcs) (λ f b. length_canonical b.length)
+      (λ b. length_kind.meaning.same_refl (least_arcs b)) (λ f b. length_fit b.length b.fits) form G.nodes table G refl
+      s.rising s.lists_them.stands valid in (
         ShortestPaths (listed_graph least_arcs G.nodes table),
         record { valid = canon.valid; canonical = canon.canonical; same = canon.same },
         record {

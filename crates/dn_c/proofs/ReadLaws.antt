@@ -14,7 +14,7 @@ use Rattle.dn_c.specs.contracts.shown.Shown as S
 -- the same handle, as a call that only reads sees it
 abbrev pub shown_of : Handle → Shown
 shown_of h = record {
-  seal = record { ptr = h.seal.ptr; alloc = h.seal.alloc; work = h.seal.work };
+  seal = record { ptr = h.seal.ptr; work = h.seal.work };
   full = h.full;
   agrees = h.agrees;
 }

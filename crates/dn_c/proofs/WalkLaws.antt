@@ -73,18 +73,18 @@ module _ {B A : Type 0} (lists : B → List A) where
 
 -- one more arc is copied
 module _ {B A : Type 0} (numbers : A → List ℤ) (lists : B → List A) (table : List ((ℤ × ℤ) × B)) where
-  pub none_copied : (Has : List Arc → Type 0) → Has [] → CopiesListed numbers lists table Has 0
-  none_copied Has h = ([], All-nil _, h, refl)
+  pub none_copied : (out : List Arc) → CopiesListed numbers lists table out 0
+  none_copied out = ([], All-nil _, refl, refl)
 
-  pub more_copied : (Has More : List Arc → Type 0) (n : ℕ) (found : (ℤ × ℤ) × A) (row : Arc)
+  pub more_copied : (out more : List Arc) (n : ℕ) (found : (ℤ × ℤ) × A) (row : Arc)
       → row ≡ row_of found.0 (numbers found.1) → Contains (listed_arcs lists table) found
-      → ((done : List Arc) → length done ≡ n → Has done → More (done ++ row ∷ []))
-      → CopiesListed numbers lists table Has n → CopiesListed numbers lists table More (n + 1)
-  more_copied Has More n found row is listed more (arcs, all, has, long) =
+      → ((done : List Arc) → length done ≡ n → HasRows out done → HasRows more (done ++ row ∷ []))
+      → CopiesListed numbers lists table out n → CopiesListed numbers lists table more (n + 1)
+  more_copied out more n found row is listed puts (arcs, all, has, long) =
       let rows = map-append (λ a. row_of a.0 (numbers a.1)) arcs (found ∷ []) in (
         arcs ++ found ∷ [],
         All-push (Contains (listed_arcs lists table)) arcs found all listed,
-        rw (rows, ← is) (more (rows_by numbers arcs) (length-map arcs _ ∙ sym long) has),
+        rw (rows, ← is) (puts (rows_by numbers arcs) (length-map arcs _ ∙ sym long) has),
         omega (arith, long, length-append arcs (found ∷ [])),
       )
 
@@ -121,11 +121,11 @@ module _ {B A : Type 0} (numbers : A → List ℤ) (lists : B → List A) (arc :
   pairs_back index None = refl
   pairs_back index (Some x) = refl
 
-  pub copies_from : (old new : Place) (room : ℕ) (Has : List Arc → Type 0) (n next : ℕ) (last taken : Option A)
+  pub copies_from : (old new : Place) (room : ℕ) (out : List Arc) (n next : ℕ) (last taken : Option A)
       (result : Count) → last ≡ last_before arc old → new ≡ place_after numbers next taken → result ≡ fine_count n
-      → Fills numbers lists table old.pairs last room Has n next taken → CopiesListed numbers lists table Has n
-      → CopiesFrom numbers lists arc table old new room Has result
-  copies_from old new room Has n next last taken result was is fine f listed =
+      → Fills numbers lists table old.pairs last room out n next taken → CopiesListed numbers lists table out n
+      → CopiesFrom numbers lists arc table old new room out result
+  copies_from old new room out n next last taken result was is fine f listed =
       rw (fine, is) (
         refl,
         λ rows h.
@@ -134,7 +134,7 @@ module _ {B A : Type 0} (numbers : A → List ℤ) (lists : B → List A) (arc :
             let row = λ (x : (ℤ × ℤ) × A). row_of x.0 (numbers x.1) in
             let same : rows_by numbers (take room left) ≡ take room rows = sym (take-map row room left) ∙ ap (take room)
             (sym h.2) in (
-              subst Has same got.0,
+              subst (HasRows out) same got.0,
               got.1 ∙ sym (length-map (take room left) row) ∙ ap length same,
               (
                 drop n left,

@@ -5,8 +5,8 @@ pub mod Facts
 pub mod Differences
 pub mod Fits
 pub mod Items
+pub mod Lines
 pub mod Outputs
-pub mod Columns
 pub mod Sealed
 pub mod Statuses
 pub mod Walks

@@ -1,8 +1,10 @@
 // The first difference between two instances, as C has it.
 ghost use Rattle.std.specs.Prelude.{◌≡◌, pos, Some};
-ghost use Rattle.dn_c.specs.State.Differences.{ComparesWorks, DiffersAs, IsNotBoth, IsValue, OfWhole, PairDiffers, TellsVerdict};
+ghost use Rattle.dn_c.specs.State.Differences.{ComparesWorks, DiffersAs, IsValue, OfWhole, PairDiffers, TellsVerdict};
+ghost use Rattle.dn_c.specs.State.Reads.{shown_work};
 
 use crate::facts::kind_number;
+use crate::shown::Shown;
 use crate::work::Work;
 use dn_arc::How;
 use dn_compare::compare;
@@ -83,13 +85,6 @@ fn tell(what: u8, at: i64, to: i64, left: Option<i128>, right: Option<i128>) -> 
     }
 }
 
-/// Returns the difference of a call whose handles do not both hold an instance.
-pub fn not_both() -> Difference
-    ensures { IsNotBoth result }
-{
-    tell(255, 0, 0, None, None)
-}
-
 // Returns a difference of the whole instances, with these values.
 fn of_both(what: u8, left: i64, right: i64) -> Difference
     ensures { OfWhole what (Some left) (Some right) result }
@@ -141,11 +136,14 @@ fn difference_of(verdict: Verdict) -> Difference
 }
 
 /// Returns where two instances first differ.
-pub fn parting(left: &Work, right: &Work) -> Difference
-    ensures { ComparesWorks left.now right.now result }
+pub fn parting(left: &Shown, right: &Shown) -> Difference
+    ensures { ComparesWorks (shown_work left.now) (shown_work right.now) result }
 {
-    match (left, right) {
-        (Work::Read(left, _), Work::Read(right, _)) => difference_of(compare(left, right)),
-        _ => not_both(),
+    match left.get() {
+        Some(Work::Read(left, _)) => match right.get() {
+            Some(Work::Read(right, _)) => difference_of(compare(left, right)),
+            _ => tell(255, 0, 0, None, None),
+        },
+        _ => tell(255, 0, 0, None, None),
     }
 }

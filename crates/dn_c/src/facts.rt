@@ -2,7 +2,9 @@
 ghost use Rattle.std.specs.Prelude.{◌≡◌, length};
 ghost use Rattle.dn_c.specs.State.Items.{listed_items};
 ghost use Rattle.dn_c.specs.State.Facts.{kind_number, no_facts, declared_facts, parsed_facts, IsFacts};
+ghost use Rattle.dn_c.specs.State.Reads.{shown_work};
 
+use crate::shown::Shown;
 use crate::work::Work;
 use dn_instance::{Declared, Held, View};
 use dn_line::Kind;
@@ -38,12 +40,12 @@ pub fn kind_number(kind: Kind) -> u8
 }
 
 /// Returns what the instance is, or what the problem line declares that a reader has read.
-pub fn tell(work: &Work) -> Facts
-    ensures { IsFacts work.now result }
+pub fn tell(handle: &Shown) -> Facts
+    ensures { IsFacts (shown_work handle.now) result }
 {
-    match work {
-        Work::Read(held, _) => parsed_facts(held),
-        Work::Reading(reader) => declared_facts(reader.declared()),
+    match handle.get() {
+        Some(Work::Read(held, _)) => parsed_facts(held),
+        Some(Work::Reading(reader)) => declared_facts(reader.declared()),
         _ => no_facts(),
     }
 }

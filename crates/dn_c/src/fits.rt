@@ -1,7 +1,9 @@
 // Whether a companion fits a graph, as C has it.
 ghost use Rattle.std.specs.Prelude.{◌≡◌};
 ghost use Rattle.dn_c.specs.State.Fits.{fit_of, neither, Judges};
+ghost use Rattle.dn_c.specs.State.Reads.{shown_work};
 
+use crate::shown::Shown;
 use crate::work::Work;
 use dn_instance::{CompanionFault, check_companion};
 
@@ -40,13 +42,13 @@ fn fit_of(check: Result<(), CompanionFault>) -> Fit
 }
 
 /// Returns whether the nodes that a companion names are nodes of the graph.
-pub fn judge(graph: &Work, companion: &Work) -> Fit
-    ensures { Judges graph.now companion.now result }
+pub fn judge(graph: &Shown, companion: &Shown) -> Fit
+    ensures { Judges (shown_work graph.now) (shown_work companion.now) result }
 {
-    match (graph, companion) {
-        (Work::Read(graph, _), Work::Read(companion, _)) => fit_of(check_companion(
-            graph, companion,
-        )),
+    match (graph.get(), companion.get()) {
+        (Some(Work::Read(graph, _)), Some(Work::Read(companion, _))) => {
+            fit_of(check_companion(graph, companion))
+        }
         _ => neither(),
     }
 }

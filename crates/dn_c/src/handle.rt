@@ -2,7 +2,7 @@
 ghost use Rattle.std.specs.Prelude.{◌≡◌, Bool, Some, None, is_some};
 ghost use Rattle.std.specs.Option.{option_map};
 
-use crate::seal::Seal;
+use crate::seal::{Parts, Seal, nowhere};
 use crate::work::Work;
 use std::alloc::Global;
 use std::marker::Send;
@@ -19,11 +19,11 @@ pub struct Handle {
 
 impl Handle {
     /// Returns a handle that holds nothing.
-    pub fn empty(alloc: Global) -> Handle
+    pub fn empty() -> Handle
         ensures { result.seal.work ≡ None }
     {
         Handle {
-            seal: Seal::empty(alloc),
+            seal: Seal::empty(nowhere()),
             full: false,
         }
     }
@@ -33,17 +33,21 @@ impl Handle {
         ensures { result.seal.work ≡ Some work.value }
     {
         Handle {
-            seal: Seal::of(work),
+            seal: Seal::of(Parts::of(work)),
             full: true,
         }
     }
 
     /// Returns the work that the handle holds, if any.
-    pub fn into_box(self) -> Option<Box<Work>>
+    pub fn into_box(self, alloc: Global) -> Option<Box<Work>>
         ensures { option_map (λ b. b.value) result ≡ self.seal.work }
     {
         let Handle { seal, full } = self;
-        if full { Some(seal.into_box()) } else { None }
+        if full {
+            Some(seal.into_parts(alloc).into_box())
+        } else {
+            None
+        }
     }
 
     /// Whether the handle holds a work.
@@ -58,20 +62,15 @@ impl Handle {
         ensures value { option_map (λ b. b.value) result ≡ self.old.seal.work }
         ensures after { self.new.seal.work ≡ None }
     {
-        replace(self, Handle::empty(alloc)).into_box()
+        replace(self, Handle::empty()).into_box(alloc)
     }
 
     /// Puts a work into the handle, and frees what the handle holds.
     pub fn put(&mut self, work: Box<Work>)
         ensures { self.new.seal.work ≡ Some work.value }
     {
-        drop(replace(self, Handle::of(work)));
-    }
-}
-
-impl Drop for Handle {
-    fn drop(self) {
-        drop(self.into_box());
+        let alloc = *Box::allocator(&work);
+        drop(replace(self, Handle::of(work)).into_box(alloc));
     }
 }
 

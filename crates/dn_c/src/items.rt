@@ -1,7 +1,10 @@
 // Copies what an instance holds beside its arcs: flows, source and sink, items and points.
-ghost use Rattle.std.specs.Prelude.{◌≡◌, ◌≤◌, [], ◌∷◌, MatchOption, length, take, drop};
-ghost use Rattle.dn_c.specs.State.Items.{flow_item, point_item, id_item, pair_item, items_left, listed_items};
+ghost use Rattle.std.specs.Prelude.{◌≡◌, ◌≤◌, ◌<◌, ◌^◌, [], ◌∷◌, MatchOption, length, take, drop};
+ghost use Rattle.dn_instance.specs.State.Helds.{Contents};
+ghost use Rattle.dn_nodes.specs.State.Nodes.{Rises};
+ghost use Rattle.dn_c.specs.State.Items.{items_left, left_items, nodes_left, IsListed};
 
+use crate::place::Place;
 use dn_instance::{Held, View};
 use dn_nodes::{NodeMap, Nodes};
 
@@ -14,48 +17,11 @@ pub struct Item {
     pub b: i64,
 }
 
-// Returns the item of a flow.
-fn flow_item(id: &i64, flow: &i64) -> Item
-    ensures { result ≡ flow_item (id.now, flow.now) }
+// Returns an item with these numbers.
+fn item_of(id: i64, a: i64, b: i64) -> Item
+    ensures { result ≡ record { id = id; a = a; b = b } }
 {
-    Item {
-        id: *id,
-        a: *flow,
-        b: 0,
-    }
-}
-
-// Returns the item of a point.
-fn point_item(id: &i64, place: &(i64, i64)) -> Item
-    ensures { result ≡ point_item (id.now, place.now) }
-{
-    Item {
-        id: *id,
-        a: place.0,
-        b: place.1,
-    }
-}
-
-// Returns the item of an ID.
-fn id_item(id: &i64) -> Item
-    ensures { result ≡ id_item id.now }
-{
-    Item {
-        id: *id,
-        a: 0,
-        b: 0,
-    }
-}
-
-// Returns the item of a pair.
-fn pair_item(pair: &(i64, i64)) -> Item
-    ensures { result ≡ pair_item pair.now }
-{
-    Item {
-        id: pair.0,
-        a: pair.1,
-        b: 0,
-    }
+    Item { id, a, b }
 }
 
 // The items of an instance that are left from some place on.
@@ -68,44 +34,44 @@ pub(crate) enum ItemsLeft<'a> {
     Terminals(Option<(i64, i64)>),
 }
 
-// Returns the nodes of a map from the one at `from`, counted from 0.
-fn nodes_from<V: Drop>(map: &NodeMap<V>, from: u64) -> Nodes<'_, V>
-    ensures { result ≡ drop from map.now.entries }
+// Returns the nodes of a map that are left after a place.
+fn nodes_after<'a, V: Drop>(map: &'a NodeMap<V>, place: &Place) -> Nodes<'a, V>
+    ensures left { result ≡ nodes_left place.now map.now.entries }
+    ensures rising { Rises map.now.entries }
 {
-    let mut nodes = map.iter();
-    for _ in 0..from {
-        match nodes.next() {
-            Some(_) => {}
-            None => return nodes,
-        }
+    if place.within == 0 {
+        map.iter()
+    } else {
+        map.after(&place.a)
     }
-    nodes
 }
 
-// Returns a list from the element at `from` on, counted from 0.
-fn list_from<T>(list: &[T], from: u64) -> &[T]
-    ensures { result.now ≡ drop from list.now }
+// Returns the elements of a list that are left after a place.
+fn list_after<'a, T>(list: &'a [T], place: &Place) -> &'a [T]
+    ensures left { result.now ≡ drop place.now.pairs list.now }
+    ensures short { length list.now < 2 ^ 64 }
 {
-    if list.len() as u64 <= from {
+    if list.len() <= place.pairs {
         return &[];
     }
-    &list[from as usize..]
+    &list[place.pairs..]
 }
 
 impl<'a> ItemsLeft<'a> {
-    // Returns the items of a parsed instance from the one at `from`, counted from 0.
-    pub(crate) fn of(held: &'a Held, from: u64) -> ItemsLeft<'a>
-        ensures { items_left result ≡ drop from (listed_items held.now.contents) }
+    // Returns the items of a parsed instance that are left after a place.
+    pub(crate) fn of(held: &'a Held, place: &Place) -> ItemsLeft<'a>
+        ensures left { items_left result ≡ left_items held.now.contents place.now }
+        ensures listed { IsListed held.now.contents }
     {
         match held.view() {
-            View::Min { supplies, .. } => ItemsLeft::Flows(nodes_from(supplies, from)),
-            View::Max { source, sink, .. } if from == 0 => {
+            View::Min { supplies, .. } => ItemsLeft::Flows(nodes_after(supplies, place)),
+            View::Max { source, sink, .. } if place.pairs == 0 => {
                 ItemsLeft::Terminals(Some((source, sink)))
             }
             View::Max { .. } | View::Sp { .. } => ItemsLeft::Terminals(None),
-            View::Ss { items } => ItemsLeft::Ids(list_from(items, from)),
-            View::P2p { items } => ItemsLeft::Pairs(list_from(items, from)),
-            View::Co { points } => ItemsLeft::Points(nodes_from(points, from)),
+            View::Ss { items } => ItemsLeft::Ids(list_after(items, place)),
+            View::P2p { items } => ItemsLeft::Pairs(list_after(items, place)),
+            View::Co { points } => ItemsLeft::Points(nodes_after(points, place)),
         }
     }
 
@@ -116,39 +82,46 @@ impl<'a> ItemsLeft<'a> {
     {
         match self {
             ItemsLeft::Flows(nodes) => match nodes.next() {
-                Some((id, flow)) => Some(flow_item(&id, flow)),
+                Some((id, flow)) => Some(item_of(id, *flow, 0)),
                 None => None,
             },
             ItemsLeft::Points(nodes) => match nodes.next() {
-                Some((id, place)) => Some(point_item(&id, place)),
+                Some((id, place)) => Some(item_of(id, place.0, place.1)),
                 None => None,
             },
             ItemsLeft::Ids(ids) => {
                 let (id, rest) = ids.split_first()?;
                 *ids = rest;
-                Some(id_item(id))
+                Some(item_of(*id, 0, 0))
             }
             ItemsLeft::Pairs(pairs) => {
                 let (pair, rest) = pairs.split_first()?;
                 *pairs = rest;
-                Some(pair_item(pair))
+                Some(item_of(pair.0, pair.1, 0))
             }
             ItemsLeft::Terminals(terminals) => match terminals.take() {
-                Some(pair) => Some(pair_item(&pair)),
+                Some(pair) => Some(item_of(pair.0, pair.1, 0)),
                 None => None,
             },
         }
     }
 
-    // Copies the items, as far as there is room. Returns how many it copied.
-    pub(crate) fn put(mut self, out: &mut [Item]) -> usize
+    // Copies the items, as far as there is room, and moves the place, after which they are left, behind them. Returns
+    // how many it copied.
+    pub(crate) fn put(mut self, place: &mut Place, out: &mut [Item]) -> usize
         ensures copies { take result out.new ≡ take (length out.old) (items_left self.entry) }
         ensures fits { result ≤ length out.new }
+        ensures behind { (contents : Contents) → IsListed contents
+            → items_left self.entry ≡ left_items contents place.old
+            → left_items contents place.new ≡ drop result (items_left self.entry) }
     {
         let room = out.len();
         for at in 0..room {
             match self.next() {
-                Some(item) => out[at] = item,
+                Some(item) => {
+                    *place = place.behind(&item.id);
+                    out[at] = item;
+                }
                 None => return at,
             }
         }

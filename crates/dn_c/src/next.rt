@@ -1,6 +1,6 @@
 // Copies canonical arcs, one after the other.
 ghost use Rattle.std.specs.Prelude.{◌≤◌, length};
-ghost use Rattle.dn_c.specs.State.Walks.{CopiesFrom, CopiesListed, Fills, HasRows};
+ghost use Rattle.dn_c.specs.State.Walks.{CopiesFrom, CopiesListed, Fills};
 
 use crate::arcs::{Arc, row};
 use crate::place::{Kept, Place, last_before, place_after};
@@ -18,9 +18,9 @@ fn put_rows<B: Bundle>(
     last: Option<B::Arc>,
     out: &mut [Arc],
 ) -> (usize, (usize, Option<B::Arc>))
-    ensures fills { Fills B.Arc.numbers (B.bundle.listed form) table.now index last (length out.old) (HasRows out.new)
+    ensures fills { Fills B.Arc.numbers (B.bundle.listed form) table.now index last (length out.old) out.new
         result.0 result.1.0 result.1.1 }
-    ensures listed { CopiesListed B.Arc.numbers (B.bundle.listed form) table.now (HasRows out.new) result.0 }
+    ensures listed { CopiesListed B.Arc.numbers (B.bundle.listed form) table.now out.new result.0 }
     ensures fits { result.0 ≤ length out.new }
 {
     let room = out.len();
@@ -48,7 +48,7 @@ pub(crate) fn put_next<B: Kept>(
     out: &mut [Arc],
 ) -> Count
     ensures copies { CopiesFrom B.Arc.numbers (B.bundle.listed form) B.arc_at table.now place.old place.new
-        (length out.old) (HasRows out.new) result }
+        (length out.old) out.new result }
     ensures fits { result.count ≤ length out.new }
 {
     let put = put_rows(table, form, place.pairs, last_before::<B>(place), out);

@@ -1,7 +1,7 @@
 // Places in a walk over canonical arcs or over items, from which the walk goes on.
 ghost use Rattle.std.specs.Prelude.{◌≡◌, ℕ, refl};
 ghost use Rattle.dn_c.specs.declared.place.Place.{Place};
-ghost use Rattle.dn_c.specs.State.Places.{past, place_after, place_with, last_before, cap_at, cost_at, length_at};
+ghost use Rattle.dn_c.specs.State.Places.{behind, place_after, place_with, last_before, cap_at, cost_at, length_at};
 
 use crate::arcs::number;
 use dn_arc::{CapArc, CostArc, LengthArc, Parts};
@@ -9,7 +9,7 @@ use dn_bundle::{Bundle, Curve, Least, Total};
 
 /// A place between two canonical arcs of a graph: so many pairs with all their arcs are before it, and of the next pair
 /// the arcs up to the one with these numbers, if `within` is not 0. A place between two items has so many items before
-/// it. All zeros is the place before the first.
+/// it, and `a` is the ID of the last of them, if `within` is not 0. All zeros is the place before the first.
 #[repr(C)]
 #[derive(Clone, Copy, Drop)]
 pub struct Place {
@@ -21,13 +21,16 @@ pub struct Place {
 }
 
 impl Place {
-    // Returns the place between items behind so many more.
-    pub(crate) fn past(self, count: usize) -> Place
-        ensures { result ≡ past self count }
+    // Returns the place between items behind one more, which has this ID.
+    pub(crate) fn behind(&self, id: &i64) -> Place
+        ensures { result ≡ behind self.now id.now }
     {
         Place {
-            pairs: self.pairs.saturating_add(count),
-            ..self
+            pairs: self.pairs.saturating_add(1),
+            within: 1,
+            a: *id,
+            b: 0,
+            c: 0,
         }
     }
 }

@@ -5,7 +5,6 @@ ghost use Rattle.dn_c.specs.declared.work.Work.{Work};
 ghost use Rattle.dn_c.specs.State.Sealed.{work_coded, seal_owns, seal_shares};
 
 use crate::work::Work;
-use std::alloc::Global;
 use std::marker::{Model, Sync};
 
 /// A pointer to a work that it owns, or to nothing, as a `Seal`. It may be read behind a `&`, so no function that C
@@ -13,12 +12,11 @@ use std::marker::{Model, Sync};
 #[derive(Drop)]
 pub struct Open {
     ptr: *const Work,
-    alloc: Global,
     pub ghost work: { Option Work } by { work_coded },
 }
 
 impl Model for Open {
-    ghost also_owns = { λ s. seal_owns s.alloc s.ptr s.work };
+    ghost also_owns = { λ s. seal_owns s.ptr s.work };
 
     ghost also_shares = { λ s _ κ. seal_shares s.ptr s.work κ };
 }

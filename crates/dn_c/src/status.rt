@@ -1,6 +1,6 @@
 // What a call returns to C.
 ghost use Rattle.std.specs.Prelude.{◌≡◌};
-ghost use Rattle.dn_c.specs.State.Statuses.{fine, wrong_call, refused_with, fine_count, wrong_count, too_many};
+ghost use Rattle.dn_c.specs.State.Statuses.{fine, wrong_call, refused_with, fine_count, wrong_count};
 
 use dn_instance::{Place, Refusal};
 
@@ -90,11 +90,4 @@ pub fn wrong_count() -> Count
     ensures { result ≡ wrong_count }
 {
     Count { count: 0, code: 40 }
-}
-
-/// Returns the count of 2^64 or more.
-pub fn too_many() -> Count
-    ensures { result ≡ too_many }
-{
-    Count { count: 0, code: 34 }
 }

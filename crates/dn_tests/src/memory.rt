@@ -72,8 +72,8 @@ fn are_right(alloc: Global, text: &[u8], canon: &[u8], mut may_refuse: bool) -> 
     true
 }
 
-// Standard input contains a text, a byte 0, and the canonical text in form 2, and `test_memory.py` refuses each
-// allocation of this test in turn; or it contains nothing, and no call may be out of memory.
+// Standard input contains the canonical text in form 2 of a text, a byte 0, and the text, and `test_memory.py` refuses
+// each allocation of this test in turn; or it contains nothing, and no call may be out of memory.
 #[test]
 fn a_refused_growth(rt: HostRuntime) {
     let mut given = Vec::new(rt.alloc());
@@ -82,7 +82,7 @@ fn a_refused_growth(rt: HostRuntime) {
         return;
     }
     let (text, canon, may_refuse) = match given.iter().position(|it| *it == 0) {
-        Some(at) => (&given[..at], &given[at + 1..], true),
+        Some(at) => (&given[at + 1..], &given[..at], true),
         None => (ROADS.as_bytes(), ROADS_CANON.as_bytes(), false),
     };
     assert!(rt; are_right(rt.alloc(), text, canon, may_refuse));

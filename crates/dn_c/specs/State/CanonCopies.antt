@@ -5,11 +5,11 @@ use Rattle.dn_arc.specs.declared.arc.Form.{Form}
 use Rattle.dn_bundle.specs.State.Listings.{least_arcs, total_arcs, curve_arcs}
 use Rattle.dn_instance.specs.Instances.{Instance, MinCostFlow, MaxFlow, ShortestPaths, Sources, Queries, Coordinates}
 use Rattle.dn_instance.specs.State.Helds.{Contents, OfMin, OfMax, OfSp}
-use Rattle.dn_c.specs.State.Items.{flow_item, point_item, id_item, pair_item, listed_items}
+use Rattle.dn_c.specs.State.Items.{flow_item, point_item, id_item, pair_item, left_items}
 use Rattle.dn_c.specs.State.Outputs.{CopiesGraph}
 use Rattle.dn_c.specs.State.Places.{cost_at, cap_at, length_at}
 use Rattle.dn_c.specs.State.Rows.{rows_by}
-use Rattle.dn_c.specs.State.Walks.{HasRows, IsLeftAfter}
+use Rattle.dn_c.specs.State.Walks.{IsLeftAfter}
 use Rattle.dn_c.specs.declared.arcs.Arc.{Arc}
 use Rattle.dn_c.specs.declared.items.Item.{Item}
 use Rattle.dn_c.specs.declared.place.Place.{Place}
@@ -68,8 +68,7 @@ Walks Copies place (call ∷ next ∷ rest) = Copies place call × Walks Copies 
 abbrev pub WalksGraph : Form → Contents → Place → List Call → Type 0
 WalksGraph form contents =
     Walks
-    (λ place call. CopiesGraph form contents place call.place (length call.old) (HasRows call.new)
-    (call.new ≡ call.old) call.result)
+    (λ place call. CopiesGraph form contents place call.place call.old call.new call.result)
 
 -- calls get the arcs and the items of this instance out of the contents in this form
 pub record GivesOut (form : Form) (contents : Contents) (J : Instance) : Type 0 where
@@ -78,4 +77,5 @@ pub record GivesOut (form : Form) (contents : Contents) (J : Instance) : Type 0 
   -- and calls from there on, until one copies fewer arcs than there is room for, copy them
   pub walk : (calls : List Call) → WalksGraph form contents first_place calls
       → flat_map copied calls ≡ instance_rows J
-  pub items : listed_items contents ≡ instance_items J
+  -- its items are left after the place of zeros, which each call of dnorm_items moves behind what it copies
+  pub items : left_items contents first_place ≡ instance_items J

@@ -32,10 +32,6 @@ pub record TellsVerdict (what : ℕ) (at to : ℤ) (index : ℕ) (amount : ℤ) 
 abbrev pub OfWhole : ℕ → Option ℤ → Option ℤ → Difference → Type 0
 OfWhole what left right d = TellsVerdict what (pos 0) (pos 0) 0 (pos 0) left right d
 
--- the answer where a handle holds no instance
-abbrev pub IsNotBoth : Difference → Type 0
-IsNotBoth d = OfWhole 255 None None d
-
 -- how the arcs of an ordered pair differ, as C has it
 abbrev pub PairDiffers : ℤ → ℤ → How → Difference → Type 0
 PairDiffers src dst (Hows.Lengths left right) d = TellsVerdict 6 src dst 0 (pos 0) left right d
@@ -56,8 +52,8 @@ DiffersAs (Verdicts.Length left right) d = OfWhole 7 (Some (pos left)) (Some (po
 DiffersAs (Verdicts.Item index) d = TellsVerdict 8 (pos 0) (pos 0) index (pos 0) None None d
 DiffersAs (Verdicts.Point id) d = TellsVerdict 9 id (pos 0) 0 (pos 0) None None d
 
--- the first difference between the instances that two works hold
-abbrev pub ComparesWorks : Work → Work → Difference → Type 0
-ComparesWorks (Works.Read left _) (Works.Read right _) d =
+-- the first difference between the instances that two works hold, or that they do not both hold one
+abbrev pub ComparesWorks : Option Work → Option Work → Difference → Type 0
+ComparesWorks (Some (Works.Read left _)) (Some (Works.Read right _)) d =
     (v : Verdict) × OfBoth left right (λ I J. IsFirstDifference I J v) × DiffersAs v d
-ComparesWorks _ _ d = IsNotBoth d
+ComparesWorks _ _ d = OfWhole 255 None None d

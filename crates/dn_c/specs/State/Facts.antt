@@ -40,8 +40,8 @@ declared_facts None = no_facts
 declared_facts (Some d) = record { kind = kind_number d.kind; nodes = d.nodes; lines = d.lines; pairs = 0; items = 0 }
 
 -- what the instance is, or what the problem line declares that a reader has read; any other work is nothing of this
-abbrev pub IsFacts : Work → Facts → Type 0
-IsFacts (Works.Read held _) facts = facts ≡ parsed_facts held
-IsFacts (Works.Reading r) facts =
+abbrev pub IsFacts : Option Work → Facts → Type 0
+IsFacts (Some (Works.Read held _)) facts = facts ≡ parsed_facts held
+IsFacts (Some (Works.Reading r)) facts =
     (d : Option Declared) × DeclaresRead r d × DeclaresBefore r d × (facts ≡ declared_facts d)
 IsFacts _ facts = facts ≡ no_facts

@@ -1,5 +1,5 @@
 -- Whether a companion fits a graph, as C has it.
-use Rattle.std.specs.Prelude.{◌≡◌, pos, Result, Ok, Err}
+use Rattle.std.specs.Prelude.{◌≡◌, pos, Option, Some, Result, Ok, Err}
 use Rattle.dn_instance.specs.Companions.{companion_fit}
 use Rattle.dn_instance.specs.State.Helds.{OfBoth}
 use Rattle.dn_instance.specs.declared.companion.CompanionFault.{CompanionFault}
@@ -19,8 +19,8 @@ abbrev pub neither : Fit
 neither = record { code = 255; node = pos 0 }
 
 -- whether the second work is a companion that fits the graph of the first
-abbrev pub Judges : Work → Work → Fit → Type 0
-Judges (Works.Read graph _) (Works.Read companion _) fit =
+abbrev pub Judges : Option Work → Option Work → Fit → Type 0
+Judges (Some (Works.Read graph _)) (Some (Works.Read companion _)) fit =
     (check : Result (Unit {0}) CompanionFault) × OfBoth graph companion (λ I J. check ≡ companion_fit I J)
     × (fit ≡ fit_of check)
 Judges _ _ fit = fit ≡ neither

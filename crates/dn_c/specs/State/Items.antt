@@ -1,9 +1,11 @@
 -- What C gets of an instance beside its arcs, an item for each line.
-use Rattle.std.specs.Prelude.{ℤ, pos, List, [], ◌∷◌, map, Some, None}
+use Rattle.std.specs.Prelude.{◌<◌, ◌^◌, ℤ, pos, List, [], ◌∷◌, map, drop, length, cond, nat_eq, Some, None}
+use Rattle.dn_nodes.specs.State.Nodes.{after, Rises}
 use Rattle.dn_instance.specs.State.Helds.{Contents, OfMin, OfMax, OfSp, OfSs, OfP2p, OfCo}
 use Rattle.dn_c.specs.declared.items.Item.{Item}
 use Rattle.dn_c.specs.declared.items.ItemsLeft.{ItemsLeft}
 use Rattle.dn_c.specs.declared.items.ItemsLeft.TheVariants as Lefts
+use Rattle.dn_c.specs.declared.place.Place.{Place}
 
 -- the flow of a node
 abbrev pub flow_item : ℤ × ℤ → Item
@@ -38,3 +40,19 @@ items_left (Lefts.Ids ids) = map id_item ids.now
 items_left (Lefts.Pairs pairs) = map pair_item pairs.now
 items_left (Lefts.Terminals (Some p)) = pair_item p ∷ []
 items_left (Lefts.Terminals None) = []
+
+-- the entries of a map that are left after a place between items: those after the last ID before it
+abbrev pub nodes_left : {V : Type 0} → Place → List (ℤ × V) → List (ℤ × V)
+nodes_left place es = cond (nat_eq place.within 0) es (after place.a es)
+
+-- the items of an instance that are left after a place
+abbrev pub left_items : Contents → Place → List Item
+left_items (OfMin flows table) place = map flow_item (nodes_left place flows)
+left_items (OfCo points) place = map point_item (nodes_left place points)
+left_items contents place = drop place.pairs (listed_items contents)
+
+-- the nodes of a map rise, and a list has fewer than 2^64 elements
+abbrev pub IsListed : Contents → Type 0
+IsListed (OfMin flows table) = Rises flows
+IsListed (OfCo points) = Rises points
+IsListed contents = length (listed_items contents) < 2 ^ 64

@@ -1,5 +1,5 @@
 -- What C gets of a work: arcs, items, and a canonical text.
-use Rattle.std.specs.Prelude.{◌≡◌, ◌⊎◌, ℕ, cond, nat_eq, List, [], ◌∷◌, take, drop, length, Option, Some, None, Result, Ok, Err, MatchOption, ℤ, ◌^◌}
+use Rattle.std.specs.Prelude.{◌≡◌, ◌⊎◌, ℕ, cond, nat_eq, List, [], ◌∷◌, take, drop, length, Option, Some, None, Result, Ok, Err, ℤ, ◌^◌}
 use Rattle.std.specs.Global.{Vec}
 use Rattle.dn_arc.specs.declared.arc.Form.{Form}
 use Rattle.dn_arc.specs.declared.arc.Form.TheVariants.{One, Two}
@@ -7,20 +7,17 @@ use Rattle.dn_arc.specs.declared.arc.LengthArc.{LengthArc}
 use Rattle.dn_arc.specs.declared.arc.CapArc.{CapArc}
 use Rattle.dn_arc.specs.declared.arc.CostArc.{CostArc}
 use Rattle.dn_bundle.specs.State.Listings.{least_arcs, total_arcs, curve_arcs}
-use Rattle.dn_line.specs.Names.{kind_name}
-use Rattle.dn_instance.specs.Refusals.{refusal_name}
-use Rattle.dn_instance.specs.State.ReaderResults.{refusal_of}
-use Rattle.dn_instance.specs.State.Helds.{Contents, Parsed, contents_kind, OfMin, OfMax, OfSp, OfHeld}
+use Rattle.dn_instance.specs.State.Helds.{Contents, Parsed, OfMin, OfMax, OfSp, OfHeld}
 use Rattle.dn_instance.specs.declared.refusal.Refusal.{Refusal}
 use Rattle.dn_canon.specs.State.ListedArcs.{listed_arcs}
 use Rattle.dn_canon.specs.State.Runs.{TextOutcome}
-use Rattle.dn_c.specs.State.Items.{listed_items}
-use Rattle.dn_c.specs.State.Places.{past, cost_at, cap_at, length_at}
+use Rattle.dn_c.specs.State.Items.{left_items}
+use Rattle.dn_c.specs.State.Places.{cost_at, cap_at, length_at}
 use Rattle.dn_c.specs.State.Walks.{CopiesFrom}
 use Rattle.dn_c.specs.declared.place.Place.{Place}
 use Rattle.dn_table.specs.State.Tables.{CountsBelow}
 use Rattle.dn_c.specs.declared.items.Item.{Item}
-use Rattle.dn_c.specs.State.Statuses.{fine, wrong_call, refused_with, fine_count, wrong_count, too_many}
+use Rattle.dn_c.specs.State.Statuses.{fine, wrong_call, refused_with, fine_count, wrong_count}
 use Rattle.dn_c.specs.declared.arcs.Arc.{Arc}
 use Rattle.dn_c.specs.declared.status.Count.{Count}
 use Rattle.dn_c.specs.declared.status.Status.{Status}
@@ -32,36 +29,32 @@ abbrev pub form_numbered : ℕ → Form
 form_numbered n = cond (nat_eq n 2) Two One
 
 -- the handle is not for the call, and nothing has changed
-abbrev pub CopiesNone : Place → Place → Type 0 → Count → Type 0
-CopiesNone old new Same result = (result ≡ wrong_count) × (new ≡ old) × Same
+abbrev pub CopiesNone : Place → Place → List Arc → List Arc → Count → Type 0
+CopiesNone old new old_out out result = (result ≡ wrong_count) × (new ≡ old) × (out ≡ old_out)
 
 -- canonical arcs of a graph in this form are copied from the old place on, and the new place is behind them; a
 -- companion has no arcs, so the handle is not for the call
-abbrev pub CopiesGraph : Form → Contents → Place → Place → ℕ → (List Arc → Type 0) → Type 0 → Count → Type 0
-CopiesGraph form (OfMin flows table) old new room Has Same result =
-    CopiesFrom (λ (a : CostArc). a.low ∷ a.cap ∷ a.cost ∷ []) (curve_arcs form) cost_at table old new room Has result
-CopiesGraph form (OfMax source sink table) old new room Has Same result =
-    CopiesFrom (λ (a : CapArc). a.cap ∷ []) total_arcs cap_at table old new room Has result
-CopiesGraph form (OfSp table) old new room Has Same result =
-    CopiesFrom (λ (a : LengthArc). a.length ∷ []) least_arcs length_at table old new room Has result
-CopiesGraph form _ old new room Has Same result = CopiesNone old new Same result
+abbrev pub CopiesGraph : Form → Contents → Place → Place → List Arc → List Arc → Count → Type 0
+CopiesGraph form (OfMin flows table) old new old_out out result =
+    CopiesFrom (λ (a : CostArc). a.low ∷ a.cap ∷ a.cost ∷ []) (curve_arcs form) cost_at table old new (length old_out)
+    out result
+CopiesGraph form (OfMax source sink table) old new old_out out result =
+    CopiesFrom (λ (a : CapArc). a.cap ∷ []) total_arcs cap_at table old new (length old_out) out result
+CopiesGraph form (OfSp table) old new old_out out result =
+    CopiesFrom (λ (a : LengthArc). a.length ∷ []) least_arcs length_at table old new (length old_out) out result
+CopiesGraph form _ old new old_out out result = CopiesNone old new old_out out result
 
 -- canonical arcs of the instance of a work are copied from the old place on, as many as there is room for, and the new
 -- place is behind them; for any other work nothing changes
-abbrev pub CopiesRows : Work → ℕ → Place → Place → ℕ → (List Arc → Type 0) → Type 0 → Count → Type 0
-CopiesRows (Works.Read held _) form old new room Has Same result =
-    CopiesGraph (form_numbered form) held.contents old new room Has Same result
-CopiesRows _ form old new room Has Same result = CopiesNone old new Same result
-
--- the same of what a handle holds, if anything
-abbrev pub CopiesHeld : Option Work → ℕ → Place → Place → ℕ → (List Arc → Type 0) → Type 0 → Count → Type 0
-CopiesHeld work form old new room Has Same result =
-    MatchOption work (CopiesNone old new Same result) (λ w. CopiesRows w form old new room Has Same result)
+abbrev pub CopiesHeld : Option Work → ℕ → Place → Place → List Arc → List Arc → Count → Type 0
+CopiesHeld (Some (Works.Read held _)) form old new old_out out result =
+    CopiesGraph (form_numbered form) held.contents old new old_out out result
+CopiesHeld _ form old new old_out out result = CopiesNone old new old_out out result
 
 -- the count of these, if there are fewer than 2^64
 abbrev pub count_if : Option ℕ → Count
 count_if (Some n) = fine_count n
-count_if None = too_many
+count_if None = record { count = 0; code = 34 }
 
 -- the number of canonical arcs of a graph in this form, if it is below 2^64; a companion has no arcs, so the handle is
 -- not for the call
@@ -76,8 +69,8 @@ CountsGraph form (OfSp table) result = CountsListed least_arcs table result
 CountsGraph form _ result = result ≡ wrong_count
 
 -- the number of canonical arcs of the instance of a work
-abbrev pub CountsArcs : Work → ℕ → Count → Type 0
-CountsArcs (Works.Read held _) form result = CountsGraph (form_numbered form) held.contents result
+abbrev pub CountsArcs : Option Work → ℕ → Count → Type 0
+CountsArcs (Some (Works.Read held _)) form result = CountsGraph (form_numbered form) held.contents result
 CountsArcs _ form result = result ≡ wrong_count
 
 -- n of these are copied, as many as there is room for
@@ -89,18 +82,9 @@ abbrev pub IsIdle : {A : Type 0} → List A → List A → Count → Type 0
 IsIdle old new result = (result ≡ wrong_count) × (new ≡ old)
 
 -- the bytes of the text from the one at `from`, counted from 0, are copied; any other work has none
-abbrev pub CopiesText : Work → ℕ → List ℕ → List ℕ → Count → Type 0
-CopiesText (Works.Text text) from old new result = Copies (drop from text.items) old new result
+abbrev pub CopiesText : Option Work → ℕ → List ℕ → List ℕ → Count → Type 0
+CopiesText (Some (Works.Text text)) from old new result = Copies (drop from text.items) old new result
 CopiesText _ from old new result = IsIdle old new result
-
--- the name of what a work holds is copied: that of a refusal, also of a reader that has refused its text, or that of an
--- instance's kind; any other work has none
-abbrev pub CopiesName : Work → List ℕ → List ℕ → Count → Type 0
-CopiesName (Works.Reading r) old new result =
-    MatchOption (refusal_of r) (IsIdle old new result) (λ e. Copies (refusal_name e) old new result)
-CopiesName (Works.Refused refusal) old new result = Copies (refusal_name refusal) old new result
-CopiesName (Works.Read held _) old new result = Copies (kind_name (contents_kind held.contents)) old new result
-CopiesName _ old new result = IsIdle old new result
 
 -- the canonical text of a parsed instance in this form, or why there is none
 abbrev pub HasText : Parsed → Form → Result (Vec ℕ) Refusal → Type 0
@@ -108,20 +92,17 @@ HasText held form made = OfHeld held (λ I. TextOutcome (λ (v : Vec ℕ). v.ite
 
 -- what making a canonical text does to the handle for it, which holds the text if it held nothing before; memory can
 -- run out only for an instance
-abbrev pub PrintsInto : Work → ℕ → Option Work → Option Work → Status → Type 0
-PrintsInto work form (Some was) new status = (new ≡ Some was) × (status ≡ wrong_call)
-PrintsInto (Works.Read held _) form None new status =
+abbrev pub PrintsHeld : Option Work → ℕ → Option Work → Option Work → Status → Type 0
+PrintsHeld work form (Some was) new status = (new ≡ Some was) × (status ≡ wrong_call)
+PrintsHeld (Some (Works.Read held _)) form None new status =
     ((text : Vec ℕ) × (new ≡ Some (Works.Text text)) × (status ≡ fine) × HasText held (form_numbered form) (Ok text))
     ⊎ ((new ≡ None) × ((e : Refusal) × (status ≡ refused_with e) × HasText held (form_numbered form) (Err e)))
-PrintsInto work form None new status = (new ≡ None) × (status ≡ wrong_call)
+PrintsHeld work form None new status = (new ≡ None) × (status ≡ wrong_call)
 
--- the same of the instance that another handle holds, if it holds one
-abbrev pub PrintsHeld : Option Work → ℕ → Option Work → Option Work → Status → Type 0
-PrintsHeld work form old new status =
-    MatchOption work ((status ≡ wrong_call) × (new ≡ old)) (λ w. PrintsInto w form old new status)
-
--- the items of the instance behind the old place are copied, and the new place is behind them; any other work has none
-abbrev pub CopiesItems : Work → Place → Place → List Item → List Item → Count → Type 0
-CopiesItems (Works.Read held _) old_place place old new result =
-    Copies (drop old_place.pairs (listed_items held.contents)) old new result × (place ≡ past old_place result.count)
+-- of the items of the instance that are left after the old place, the first are copied, as many as there is room for,
+-- and the others are left after the new place; any other work has none
+abbrev pub CopiesItems : Option Work → Place → Place → List Item → List Item → Count → Type 0
+CopiesItems (Some (Works.Read held _)) old_place place old new result =
+    Copies (left_items held.contents old_place) old new result
+    × (left_items held.contents place ≡ drop result.count (left_items held.contents old_place))
 CopiesItems _ old_place place old new result = IsIdle old new result × (place ≡ old_place)

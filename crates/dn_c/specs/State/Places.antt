@@ -35,6 +35,6 @@ abbrev pub place_after : {A : Type 0} → (A → List ℤ) → ℕ → Option A 
 place_after numbers index None = record { pairs = index; within = 0; a = pos 0; b = pos 0; c = pos 0 }
 place_after numbers index (Some x) = place_with index (numbers x)
 
--- the place between items behind n more; no text has 2^63 items
-abbrev pub past : Place → ℕ → Place
-past p n = record { pairs = min (p.pairs + n) (2 ^ 64 - 1); within = p.within; a = p.a; b = p.b; c = p.c }
+-- the place behind one more item: so many items are before it, and this is the ID of the last of them
+abbrev pub behind : Place → ℤ → Place
+behind p id = record { pairs = min (p.pairs + 1) (2 ^ 64 - 1); within = 1; a = id; b = pos 0; c = pos 0 }

@@ -42,7 +42,3 @@ fine_count n = record { count = n; code = 0 }
 -- the handle is not for this call, and nothing changed
 abbrev pub wrong_count : Count
 wrong_count = record { count = 0; code = 40 }
-
--- there are 2^64 or more
-abbrev pub too_many : Count
-too_many = record { count = 0; code = 34 }

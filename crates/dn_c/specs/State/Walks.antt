@@ -28,25 +28,24 @@ StepsArc {A = A} lists table index last result =
     → MatchOption result (left ≡ [])
     (λ s. (rest : List ((ℤ × ℤ) × A)) × (left ≡ s.1 ∷ rest) × IsLeft lists (drop s.0 table) (Some s.1.1) rest)
 
--- wherever these arcs are left, the first n of them are copied, as many as there is room for, and the others are left
--- after the last one that is taken then
-abbrev pub Fills : {B A : Type 0} → (A → List ℤ) → (B → List A) → List ((ℤ × ℤ) × B) → ℕ → Option A → ℕ
-    → (List Arc → Type 0) → ℕ → ℕ → Option A → Type 0
-Fills {A = A} numbers lists table index last room Has n next taken =
-    (left : List ((ℤ × ℤ) × A)) → IsLeft lists (drop index table) last left
-    → Has (rows_by numbers (take room left)) × (n ≡ length (take room left))
-    × IsLeft lists (drop next table) taken (drop n left)
-
--- this many arcs that the table lists are copied, from wherever the walk goes on
-abbrev pub CopiesListed : {B A : Type 0} → (A → List ℤ) → (B → List A) → List ((ℤ × ℤ) × B) → (List Arc → Type 0) → ℕ
-    → Type 0
-CopiesListed {A = A} numbers lists table Has n =
-    (arcs : List ((ℤ × ℤ) × A)) × All (Contains (listed_arcs lists table)) arcs × Has (rows_by numbers arcs)
-    × (n ≡ length arcs)
-
 -- `out` begins with these rows
 abbrev pub HasRows : List Arc → List Arc → Type 0
 HasRows out rows = take (length rows) out ≡ rows
+
+-- wherever these arcs are left, the first n of them are copied, as many as there is room for, and the others are left
+-- after the last one that is taken then
+abbrev pub Fills : {B A : Type 0} → (A → List ℤ) → (B → List A) → List ((ℤ × ℤ) × B) → ℕ → Option A → ℕ
+    → List Arc → ℕ → ℕ → Option A → Type 0
+Fills {A = A} numbers lists table index last room out n next taken =
+    (left : List ((ℤ × ℤ) × A)) → IsLeft lists (drop index table) last left
+    → HasRows out (rows_by numbers (take room left)) × (n ≡ length (take room left))
+    × IsLeft lists (drop next table) taken (drop n left)
+
+-- this many arcs that the table lists are copied, from wherever the walk goes on
+abbrev pub CopiesListed : {B A : Type 0} → (A → List ℤ) → (B → List A) → List ((ℤ × ℤ) × B) → List Arc → ℕ → Type 0
+CopiesListed {A = A} numbers lists table out n =
+    (arcs : List ((ℤ × ℤ) × A)) × All (Contains (listed_arcs lists table)) arcs × HasRows out (rows_by numbers arcs)
+    × (n ≡ length arcs)
 
 -- these rows are left of a table after the place: it is one that begins a pair, or it is after an arc of its pair
 abbrev pub IsLeftAfter : {B A : Type 0} → (A → List ℤ) → (B → List A) → (Place → A) → List ((ℤ × ℤ) × B) → Place
@@ -58,10 +57,10 @@ IsLeftAfter {A = A} numbers lists arc table place rows =
 -- wherever these rows are left after the old place, the first n of them are copied, as many as there is room for, and
 -- the others are left after the new place. After any other place, some arcs of the table are copied, or none
 abbrev pub CopiesFrom : {B A : Type 0} → (A → List ℤ) → (B → List A) → (Place → A) → List ((ℤ × ℤ) × B) → Place → Place
-    → ℕ → (List Arc → Type 0) → Count → Type 0
-CopiesFrom numbers lists arc table old new room Has result =
+    → ℕ → List Arc → Count → Type 0
+CopiesFrom numbers lists arc table old new room out result =
     (result.code ≡ 0)
     × ((rows : List Arc) → IsLeftAfter numbers lists arc table old rows
-    → Has (take room rows) × (result.count ≡ length (take room rows))
+    → HasRows out (take room rows) × (result.count ≡ length (take room rows))
     × IsLeftAfter numbers lists arc table new (drop result.count rows))
-    × CopiesListed numbers lists table Has result.count
+    × CopiesListed numbers lists table out result.count

@@ -58,8 +58,3 @@ Finishes old new status = (new ≡ old) × (status ≡ wrong_call)
 abbrev pub OnWork : (Work → Work → Status → Type 0) → Option Work → Option Work → Status → Type 0
 OnWork Acts None new status = (new ≡ None) × (status ≡ wrong_call)
 OnWork Acts (Some old) new status = (work : Work) × (new ≡ Some work) × Acts old work status
-
--- both options have a value, and these are so; or not both have one, and `otherwise`
-abbrev pub BothHold : (Work → Work → Type 0) → Type 0 → Option Work → Option Work → Type 0
-BothHold Are otherwise (Some l) (Some r) = Are l r
-BothHold Are otherwise _ _ = otherwise

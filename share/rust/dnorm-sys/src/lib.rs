@@ -5,9 +5,9 @@
 
 use core::ffi::c_void;
 
-pub const DNORM_ABI: u32 = 2;
+pub const DNORM_ABI: u32 = 3;
 
-/// Owns nothing, a reader, an instance, a refusal, or a canonical text.
+/// Owns nothing, a reader, an instance, a refusal, a canonical text, or a reader of arc lines.
 #[repr(C)]
 #[derive(Debug)]
 pub struct dnorm {
@@ -155,6 +155,26 @@ pub struct dnorm_fit {
     pub node: i64,
 }
 
+#[repr(C)]
+#[derive(Clone, Copy, Debug, Default, PartialEq, Eq)]
+pub struct dnorm_row {
+    pub line: u64,
+    pub tail: i64,
+    pub head: i64,
+    pub a: i64,
+    pub b: i64,
+    pub c: i64,
+}
+
+#[repr(C)]
+#[derive(Clone, Copy, Debug, PartialEq, Eq)]
+pub struct dnorm_lines_given {
+    pub used: usize,
+    pub count: usize,
+    pub code: u8,
+    pub line: u64,
+}
+
 extern "C" {
     pub fn dnorm_begin(reader: *mut dnorm) -> dnorm_status;
     pub fn dnorm_feed(reader: *mut dnorm, bytes: *const u8, length: usize) -> dnorm_status;
@@ -168,21 +188,6 @@ extern "C" {
         out: *mut dnorm_arc,
         room: usize,
     ) -> dnorm_count;
-    pub fn dnorm_columns(
-        graph: *const dnorm,
-        form: u8,
-        place: *mut dnorm_place,
-        tails: *mut i64,
-        tails_room: usize,
-        heads: *mut i64,
-        heads_room: usize,
-        a: *mut i64,
-        a_room: usize,
-        b: *mut i64,
-        b_room: usize,
-        c: *mut i64,
-        c_room: usize,
-    ) -> dnorm_count;
     pub fn dnorm_items(
         instance: *const dnorm,
         place: *mut dnorm_place,
@@ -190,10 +195,16 @@ extern "C" {
         room: usize,
     ) -> dnorm_count;
     pub fn dnorm_canon(instance: *const dnorm, form: u8, text: *mut dnorm) -> dnorm_status;
-    pub fn dnorm_text(text: *const dnorm, from: usize, out: *mut u8, room: usize) -> dnorm_count;
-    pub fn dnorm_name(any: *const dnorm, out: *mut u8, room: usize) -> dnorm_count;
+    pub fn dnorm_text(text: *mut dnorm, from: usize, out: *mut u8, room: usize) -> dnorm_count;
     pub fn dnorm_compare(left: *const dnorm, right: *const dnorm) -> dnorm_difference;
     pub fn dnorm_fits(graph: *const dnorm, companion: *const dnorm) -> dnorm_fit;
+    pub fn dnorm_lines_begin(reader: *mut dnorm) -> dnorm_status;
+    pub fn dnorm_lines(
+        reader: *mut dnorm,
+        bytes: *const u8,
+        length: usize,
+        out: *mut dnorm_row,
+        room: usize,
+    ) -> dnorm_lines_given;
     pub fn dnorm_free(any: *mut dnorm);
-    pub fn dnorm_abi() -> u32;
 }

@@ -1,4 +1,4 @@
-//! The number, name and sentence of each refusal in `dnorm help`. `tools/refusals --write` makes this file.
+//! The number, name and sentence of each refusal in `dnorm help`. `tools/lists --write` makes this file.
 
 #[rustfmt::skip]
 pub(crate) const CODES: &[(u8, &str, &str)] = &[

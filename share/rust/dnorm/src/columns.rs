@@ -2,12 +2,11 @@
 
 use crate::refusal::{self, Refusal};
 use crate::{Form, Instance, Kind};
-use dnorm_sys as sys;
 use std::num::TryFromIntError;
 use std::ops::Range;
 
-/// Canonical arcs by columns, as [`Arc`](crate::Arc) has their numbers. Columns that the kind lacks are empty: `b` and
-/// `c` of `sp` and `max`, and all columns of a companion.
+/// Canonical arcs by columns, as [`CanonArc`](crate::CanonArc) has their numbers. Columns that the kind lacks are empty:
+/// `b` and `c` of `sp` and `max`, and all columns of a companion.
 #[derive(Clone, Debug, Default, PartialEq, Eq)]
 pub struct Columns<Number> {
     /// The tails.
@@ -22,41 +21,8 @@ pub struct Columns<Number> {
     pub c: Vec<Number>,
 }
 
-impl Columns<i64> {
-    pub(crate) fn of(graph: &Instance, form: Form) -> Columns<i64> {
-        let count = graph.arc_count(form);
-        let further = if graph.kind() == Kind::Min { count } else { 0 };
-        let mut made = Columns {
-            tails: vec![0; count],
-            heads: vec![0; count],
-            a: vec![0; count],
-            b: vec![0; further],
-            c: vec![0; further],
-        };
-        let mut place = sys::dnorm_place::default();
-        unsafe {
-            sys::dnorm_columns(
-                graph.raw(),
-                form as u8,
-                &mut place,
-                made.tails.as_mut_ptr(),
-                count,
-                made.heads.as_mut_ptr(),
-                count,
-                made.a.as_mut_ptr(),
-                count,
-                made.b.as_mut_ptr(),
-                further,
-                made.c.as_mut_ptr(),
-                further,
-            );
-        }
-        made
-    }
-}
-
-impl Columns<i32> {
-    pub(crate) fn narrow(graph: &Instance, form: Form) -> Result<Columns<i32>, TryFromIntError> {
+impl<Number: TryFrom<i64>> Columns<Number> {
+    pub(crate) fn of(graph: &Instance, form: Form) -> Result<Columns<Number>, Number::Error> {
         let count = graph.arc_count(form);
         let is_min = graph.kind() == Kind::Min;
         let further = if is_min { count } else { 0 };
@@ -80,32 +46,86 @@ impl Columns<i32> {
     }
 }
 
-/// Canonical arcs by their tails, a forward star.
-#[derive(Clone, Debug, PartialEq, Eq)]
-pub struct Star {
+/// Canonical arcs by their tails, a forward star, with indexes and numbers of these types: [`Star`] and [`Star32`].
+#[derive(Clone, Debug, Default, PartialEq, Eq)]
+pub struct StarOf<Index, Number> {
     /// The arcs of node `v`, counted from 1, have the indexes from `first[v - 1]` to `first[v]`, without the last one.
-    pub first: Vec<usize>,
+    pub first: Vec<Index>,
     /// The arcs.
-    pub columns: Columns<i64>,
+    pub columns: Columns<Number>,
+    /// Empty before [`StarOf::reverse`]. The arcs with the head `v` have the indexes `into[i]`, which ascend, for each
+    /// `i` from `into_first[v - 1]` to `into_first[v]`, without the last one.
+    pub into_first: Vec<Index>,
+    /// The indexes of the arcs by their heads.
+    pub into: Vec<Index>,
 }
 
-impl Star {
-    pub(crate) fn of(graph: &Instance, form: Form) -> Result<Star, Refusal> {
+/// A forward star of 64 bits.
+pub type Star = StarOf<usize, i64>;
+
+/// A forward star of 32 bits.
+pub type Star32 = StarOf<i32, i32>;
+
+/// An index of an arc.
+pub trait Index: Copy + Default + TryFrom<usize> + TryInto<usize> {}
+impl Index for usize {}
+impl Index for i32 {}
+
+// An index that was made from one.
+fn at<Any: TryInto<usize>>(index: Any) -> usize {
+    index.try_into().unwrap_or(usize::MAX)
+}
+
+// Whether all indexes up to this one fit.
+fn fits<I: Index>(greatest: usize) -> Option<I> {
+    I::try_from(greatest).ok()
+}
+
+impl<I: Index, Number: Copy + TryFrom<i64> + TryInto<usize>> StarOf<I, Number> {
+    // Returns the star of these columns, or no error for indexes that do not fit.
+    pub(crate) fn of(nodes: i64, columns: Columns<Number>) -> Result<Option<Self>, Refusal> {
+        let room = usize::try_from(nodes).ok().and_then(|it| it.checked_add(1));
+        let room = room.ok_or_else(refusal::memory)?;
+        let arcs = columns.tails.len();
+        if fits::<I>(room - 1).is_none() || fits::<I>(arcs).is_none() {
+            return Ok(None);
+        }
         let mut first = Vec::new();
-        let nodes = usize::try_from(graph.nodes()).map_err(|_| refusal::memory())?;
-        let room = nodes.checked_add(1).ok_or_else(refusal::memory)?;
         first
             .try_reserve_exact(room)
             .map_err(|_| refusal::memory())?;
-        let columns = graph.columns(form);
-        for (at, tail) in columns.tails.iter().enumerate() {
-            // A tail is in 1 to NODES, and tails ascend.
-            while first.len() < *tail as usize {
-                first.push(at);
+        let mut seen = 0;
+        for node in 0..room {
+            while columns.tails.get(seen).map_or(false, |it| at(*it) <= node) {
+                seen += 1;
             }
+            first.extend(fits::<I>(seen));
         }
-        first.resize(room, columns.tails.len());
-        Ok(Star { first, columns })
+        Ok(Some(StarOf {
+            first,
+            columns,
+            into_first: Vec::new(),
+            into: Vec::new(),
+        }))
+    }
+
+    /// Finds the arcs into each node.
+    pub fn reverse(&mut self) {
+        let mut first = vec![0; self.first.len()];
+        for head in &self.columns.heads {
+            first[at(*head)] += 1;
+        }
+        for node in 1..first.len() {
+            first[node] += first[node - 1];
+        }
+        // Each list is filled from its end, so that its beginning is known at last.
+        self.into = vec![I::default(); self.columns.heads.len()];
+        for (index, head) in self.columns.heads.iter().enumerate().rev() {
+            first[at(*head)] -= 1;
+            self.into[first[at(*head)]] = fits(index).unwrap_or_default();
+        }
+        first.push(self.into.len());
+        self.into_first = first[1..].iter().filter_map(|it| fits(*it)).collect();
     }
 
     /// Returns the indexes of the arcs of a node, which is counted from 1.
@@ -114,6 +134,23 @@ impl Star {
     ///
     /// The graph does not have the node.
     pub fn arcs_of(&self, node: usize) -> Range<usize> {
-        self.first[node - 1]..self.first[node]
+        at(self.first[node - 1])..at(self.first[node])
+    }
+
+    /// Returns the indexes of the arcs into a node, which is counted from 1.
+    ///
+    /// # Panics
+    ///
+    /// The graph does not have the node, or [`StarOf::reverse`] was not called.
+    pub fn arcs_into(&self, node: usize) -> &[I] {
+        &self.into[at(self.into_first[node - 1])..at(self.into_first[node])]
+    }
+}
+
+// The error of a number that does not fit.
+pub(crate) fn too_wide() -> TryFromIntError {
+    match i32::try_from(i64::MAX) {
+        Err(error) => error,
+        Ok(_) => unreachable!("2^63-1 does not fit 32 bits"),
     }
 }

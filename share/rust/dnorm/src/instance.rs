@@ -1,11 +1,12 @@
 //! An instance that a text was read as.
 
-use crate::columns::{Columns, Star};
+use crate::columns::{self, Columns, Star, Star32, StarOf};
 use crate::difference::{Difference, Fit};
 use crate::handle::Handle;
+use crate::lines::{self, NotAFlow};
 use crate::refusal::{self, ReadError, Refusal};
 use crate::rows::Rows;
-use crate::{Arc, Form, Item, Kind, Reader};
+use crate::{ArcLine, CanonArc, Form, Item, Kind, Reader};
 use dnorm_sys as sys;
 use std::fs::File;
 use std::io::{ErrorKind, Read};
@@ -19,6 +20,7 @@ const SOME: usize = 4096;
 pub struct Instance {
     handle: Handle,
     kind: Kind,
+    lines: Option<Vec<ArcLine>>,
 }
 
 impl Instance {
@@ -38,9 +40,21 @@ impl Instance {
     /// # Errors
     ///
     /// The first fault of the text; or that memory ran out; or that the source failed before a line had a fault.
-    pub fn read(mut source: impl Read) -> Result<Instance, ReadError> {
+    pub fn read(source: impl Read) -> Result<Instance, ReadError> {
+        Instance::read_by(Reader::new()?, source)
+    }
+
+    /// Reads a text as [`Instance::read`] does, and keeps its arc lines.
+    ///
+    /// # Errors
+    ///
+    /// As [`Instance::read`] has them.
+    pub fn read_with_lines(source: impl Read) -> Result<Instance, ReadError> {
+        Instance::read_by(Reader::with_lines()?, source)
+    }
+
+    fn read_by(mut reader: Reader, mut source: impl Read) -> Result<Instance, ReadError> {
         let mut room = vec![0; 65536];
-        let mut reader = Reader::new()?;
         loop {
             match source.read(&mut room) {
                 Ok(0) => return Ok(reader.finish()?),
@@ -57,17 +71,37 @@ impl Instance {
     ///
     /// As [`Instance::read`] has them, or that the file cannot be opened. A failure names the file.
     pub fn open(path: impl AsRef<Path>) -> Result<Instance, ReadError> {
-        let path = path.as_ref();
-        let opened = File::open(path).map_err(ReadError::Failed);
-        opened
-            .and_then(Instance::read)
-            .map_err(|it| it.of_file(path))
+        Instance::open_by(path.as_ref(), Instance::read)
     }
 
-    pub(crate) fn of_handle(handle: Handle) -> Result<Instance, Refusal> {
+    /// Reads the text in a file as [`Instance::open`] does, and keeps its arc lines.
+    ///
+    /// # Errors
+    ///
+    /// As [`Instance::open`] has them.
+    pub fn open_with_lines(path: impl AsRef<Path>) -> Result<Instance, ReadError> {
+        Instance::open_by(path.as_ref(), Instance::read_with_lines)
+    }
+
+    fn open_by(
+        path: &Path,
+        read: impl FnOnce(File) -> Result<Instance, ReadError>,
+    ) -> Result<Instance, ReadError> {
+        let opened = File::open(path).map_err(ReadError::Failed);
+        opened.and_then(read).map_err(|it| it.of_file(path))
+    }
+
+    pub(crate) fn of_handle(
+        handle: Handle,
+        lines: Option<Vec<ArcLine>>,
+    ) -> Result<Instance, Refusal> {
         let kind = unsafe { sys::dnorm_facts(handle.get()) }.kind;
         match Kind::of_number(kind) {
-            Some(kind) => Ok(Instance { handle, kind }),
+            Some(kind) => Ok(Instance {
+                handle,
+                kind,
+                lines,
+            }),
             None => Err(refusal::of_another_library()),
         }
     }
@@ -112,7 +146,7 @@ impl Instance {
     }
 
     /// Returns the canonical arcs, in the order of the canonical text. A companion has none.
-    pub fn arcs(&self, form: Form) -> Rows<'_, Arc> {
+    pub fn arcs(&self, form: Form) -> Rows<'_, CanonArc> {
         // A graph of few lines has few arcs.
         let room = usize::try_from(self.lines()).map_or(SOME, |it| SOME.min(it.saturating_add(1)));
         Rows::new(self, form, room)
@@ -128,7 +162,7 @@ impl Instance {
 
     /// Returns the canonical arcs by columns. Those that the kind lacks are empty.
     pub fn columns(&self, form: Form) -> Columns<i64> {
-        Columns::of(self, form)
+        Columns::of(self, form).unwrap_or_default()
     }
 
     /// Returns the canonical arcs by columns of 32 bits.
@@ -137,7 +171,7 @@ impl Instance {
     ///
     /// A number does not fit.
     pub fn columns_32(&self, form: Form) -> Result<Columns<i32>, TryFromIntError> {
-        Columns::narrow(self, form)
+        Columns::of(self, form)
     }
 
     /// Returns the canonical arcs by their tails. The star has NODES + 1 numbers, and a text can declare any NODES.
@@ -146,7 +180,38 @@ impl Instance {
     ///
     /// There is no memory for as many numbers.
     pub fn star(&self, form: Form) -> Result<Star, Refusal> {
-        Star::of(self, form)
+        let found = StarOf::of(self.nodes(), self.columns(form))?;
+        found.ok_or_else(refusal::memory)
+    }
+
+    /// Returns the canonical arcs by their tails, with numbers of 32 bits.
+    ///
+    /// # Errors
+    ///
+    /// NODES, the number of arcs, or a number of an arc does not fit. Memory that runs out ends the program, as with
+    /// any vector of Rust.
+    pub fn star_32(&self, form: Form) -> Result<Star32, TryFromIntError> {
+        i32::try_from(self.nodes())?;
+        let found = StarOf::of(self.nodes(), self.columns_32(form)?);
+        found.ok().flatten().ok_or_else(columns::too_wide)
+    }
+
+    /// Returns the arc lines of the text, in its order, if they were kept: see [`Instance::open_with_lines`],
+    /// [`Instance::read_with_lines`] and [`Reader::with_lines`].
+    pub fn arc_lines(&self) -> Option<&[ArcLine]> {
+        self.lines.as_deref()
+    }
+
+    /// Puts a flow on the canonical arcs back on the arc lines: returns the units of each line. The lines of a pair
+    /// share the flow of its arcs: in `min` each has its lower bound, and the rest goes to the cheapest, so that the
+    /// cost stays the same; in `max` the first ones are filled; in `sp` the first of the shortest has all.
+    ///
+    /// # Errors
+    ///
+    /// The numbers are no flow on the lines, or the lines were not kept.
+    pub fn spread(&self, form: Form, flow: &[i64]) -> Result<Vec<i64>, NotAFlow> {
+        let kept = self.arc_lines().ok_or(NotAFlow)?;
+        lines::spread(self.kind, self.arcs(form), flow, kept)
     }
 
     /// Returns the canonical text.
@@ -161,7 +226,7 @@ impl Instance {
         let (mut bytes, mut room) = (Vec::new(), vec![0; 65536]);
         loop {
             let (at, size) = (room.as_mut_ptr(), room.len());
-            let copied = unsafe { sys::dnorm_text(text.get(), bytes.len(), at, size) };
+            let copied = unsafe { sys::dnorm_text(text.get_mut(), bytes.len(), at, size) };
             bytes.extend_from_slice(&room[..copied.count]);
             if copied.count < size {
                 return Ok(bytes);

@@ -19,24 +19,29 @@ mod columns;
 mod difference;
 mod handle;
 mod instance;
+mod lines;
 mod reader;
 mod refusal;
 mod rows;
 mod write;
 
-pub use columns::{Columns, Star};
+pub use columns::{Columns, Star, Star32};
 pub use difference::{Difference, Fit};
 pub use instance::Instance;
+pub use lines::NotAFlow;
 pub use reader::{Declared, Reader};
 pub use refusal::{Place, ReadError, Refusal};
 pub use rows::Rows;
-pub use write::write;
+pub use write::{write, write_flow};
 
 use dnorm_sys as sys;
 
 /// A canonical arc: its nodes, and its numbers in the order of its line. These are the length (`sp`), the capacity
 /// (`max`), or the lower bound, the capacity and the cost of a unit (`min`); those that a kind lacks are 0.
-pub type Arc = sys::dnorm_arc;
+pub type CanonArc = sys::dnorm_arc;
+
+/// An arc line of a text: the number of the line, counted from 1, its nodes, and its numbers as in [`CanonArc`].
+pub type ArcLine = sys::dnorm_row;
 
 /// What an instance has beside its arcs: a node `id` and its flow `a`, which is not 0 (`min`); the source `id` and the
 /// sink `a`, in one item (`max`); an ID (`ss`); two IDs, `id` and `a` (`p2p`); an ID, x in `a` and y in `b` (`co`).
@@ -84,9 +89,4 @@ pub enum Form {
     One = 1,
     /// One arc for each cost of a pair.
     Two = 2,
-}
-
-/// Returns the number of the interface of the library that is linked. This crate fits [`sys::DNORM_ABI`].
-pub fn abi() -> u32 {
-    unsafe { sys::dnorm_abi() }
 }

@@ -1,6 +1,7 @@
 //! A text that comes in pieces.
 
 use crate::handle::Handle;
+use crate::lines::Lines;
 use crate::refusal::{self, Refusal};
 use crate::{Instance, Kind};
 use dnorm_sys as sys;
@@ -19,6 +20,7 @@ pub struct Declared {
 /// Reads a text that comes in pieces.
 pub struct Reader {
     handle: Handle,
+    lines: Option<Lines>,
 }
 
 impl Reader {
@@ -30,7 +32,23 @@ impl Reader {
     pub fn new() -> Result<Reader, Refusal> {
         let mut handle = Handle::default();
         refusal::checked(unsafe { sys::dnorm_begin(handle.get_mut()) })?;
-        Ok(Reader { handle })
+        Ok(Reader {
+            handle,
+            lines: None,
+        })
+    }
+
+    /// Begins a text whose arc lines the instance is to keep.
+    ///
+    /// # Errors
+    ///
+    /// Memory ran out.
+    pub fn with_lines() -> Result<Reader, Refusal> {
+        let lines = Some(Lines::new()?);
+        Ok(Reader {
+            lines,
+            ..Reader::new()?
+        })
     }
 
     /// Feeds the next piece. A piece may end anywhere, and may be empty.
@@ -41,7 +59,8 @@ impl Reader {
     /// then have the same error.
     pub fn feed(&mut self, piece: &[u8]) -> Result<(), Refusal> {
         let handle = self.handle.get_mut();
-        refusal::checked(unsafe { sys::dnorm_feed(handle, piece.as_ptr(), piece.len()) })
+        refusal::checked(unsafe { sys::dnorm_feed(handle, piece.as_ptr(), piece.len()) })?;
+        self.lines.as_mut().map_or(Ok(()), |it| it.feed(piece))
     }
 
     /// Returns what the problem line declares, once it was read.
@@ -61,6 +80,7 @@ impl Reader {
     /// The first fault of the text, or memory ran out.
     pub fn finish(mut self) -> Result<Instance, Refusal> {
         refusal::checked(unsafe { sys::dnorm_finish(self.handle.get_mut()) })?;
-        Instance::of_handle(self.handle)
+        let lines = self.lines.map(Lines::finish).transpose()?;
+        Instance::of_handle(self.handle, lines)
     }
 }

@@ -1,6 +1,6 @@
 //! Arcs and items one after another.
 
-use crate::{Arc, Form, Instance, Item};
+use crate::{CanonArc, Form, Instance, Item};
 use dnorm_sys as sys;
 
 /// What the library copies from place to place.
@@ -10,8 +10,13 @@ pub trait Row: Copy + Default + 'static {
     fn copy(from: &Instance, form: Form, place: &mut sys::dnorm_place, out: &mut [Self]) -> usize;
 }
 
-impl Row for Arc {
-    fn copy(from: &Instance, form: Form, place: &mut sys::dnorm_place, out: &mut [Arc]) -> usize {
+impl Row for CanonArc {
+    fn copy(
+        from: &Instance,
+        form: Form,
+        place: &mut sys::dnorm_place,
+        out: &mut [CanonArc],
+    ) -> usize {
         let (at, room) = (out.as_mut_ptr(), out.len());
         unsafe { sys::dnorm_next(from.raw(), form as u8, place, at, room) }.count
     }

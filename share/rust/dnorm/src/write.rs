@@ -1,6 +1,6 @@
 //! Texts of items and arcs.
 
-use crate::{Arc, Item, Kind};
+use crate::{ArcLine, CanonArc, Item, Kind};
 use std::io::{self, BufWriter, Write};
 
 /// Writes a text with these items and arcs in their order, as [`Instance::items`](crate::Instance::items) and
@@ -15,7 +15,7 @@ pub fn write(
     kind: Kind,
     nodes: i64,
     items: &[Item],
-    arcs: &[Arc],
+    arcs: &[CanonArc],
 ) -> io::Result<()> {
     let mut out = BufWriter::with_capacity(65536, out);
     match kind {
@@ -43,6 +43,20 @@ pub fn write(
             Kind::Max | Kind::Sp => writeln!(out, "a {tail} {head} {a}")?,
             Kind::Ss | Kind::P2p | Kind::Co => {}
         }
+    }
+    out.flush()
+}
+
+/// Writes the units of each arc line, `f TAIL HEAD UNITS`, in the order of the text, as
+/// [`Instance::spread`](crate::Instance::spread) returns them. The writer takes large pieces, and is flushed.
+///
+/// # Errors
+///
+/// The writer failed.
+pub fn write_flow(out: impl Write, lines: &[ArcLine], units: &[i64]) -> io::Result<()> {
+    let mut out = BufWriter::with_capacity(65536, out);
+    for (line, units) in lines.iter().zip(units) {
+        writeln!(out, "f {} {} {units}", line.tail, line.head)?;
     }
     out.flush()
 }

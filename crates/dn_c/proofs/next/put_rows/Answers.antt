@@ -42,8 +42,8 @@ loop-at-preserved g c = record {
   listed =
       let at = c.loop-at.at in
       let low : at < length c.loop-at.out = omega (arith, c.loop-at-test.true, c.loop-at.invariant.kept) in
-      more_copied g.B.Arc.Parts.numbers (g.B.Bundle.bundle.listed c.args.form) c.args.table.now (HasRows c.loop-at.out)
-      (HasRows (set c.loop-at.out at c.row.result)) at c.in-Some.found.1 c.row.result c.row.ensures
+      more_copied g.B.Arc.Parts.numbers (g.B.Bundle.bundle.listed c.args.form) c.args.table.now c.loop-at.out
+      (set c.loop-at.out at c.row.result) at c.in-Some.found.1 c.row.result c.row.ensures
       c.in-Some.ensures.listed
       (λ done long has. has_one_more c.loop-at.out done at c.row.result long low has) c.loop-at.invariant.listed;
   kept = length-set c.loop-at.out c.loop-at.at c.row.result ∙ c.loop-at.invariant.kept;

@@ -10,6 +10,6 @@ invariant-loop-at g l =
       fills : (left : List _) → IsLeft lists (drop l.index l.table) l.fn.last left
           → HasRows l.out (rows_by g.B.Arc.Parts.numbers (take l.at left))
           × (l.at ≤ length left) × IsLeft lists (drop l.spot l.table) l.taken (drop l.at left);
-      listed : CopiesListed g.B.Arc.Parts.numbers lists l.table (HasRows l.out) l.at;
+      listed : CopiesListed g.B.Arc.Parts.numbers lists l.table l.out l.at;
       kept : length l.out ≡ l.room;
     }

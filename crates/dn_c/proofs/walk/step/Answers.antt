@@ -1,4 +1,4 @@
-use Rattle.std.proofs.Common.{drop, length, sym, ap, subst, ◌∙◌, drop-drop, length-drop, arith, Some}
+use Rattle.std.proofs.Common.{drop, sym, ap, subst, ◌∙◌, drop-drop, Some}
 use Rattle.dn_c.specs.State.Walks.{IsLeft}
 use Rattle.dn_c.proofs.WalkLaws.{goes_on, goes_past, listed_in}
 use Rattle.dn_c.proofs.walk.step.Goals as goal
@@ -32,17 +32,4 @@ loop-pair-preserved g c =
           c.in_default.ensures.next;
       stands = ap (drop 1) (sym c.in-Some.ensures.steps ∙ c.loop-pair.invariant.stands)
           ∙ drop-drop 1 c.loop-pair.at c.args.table.now;
-    }
-
-pub overflow_add-at : goal.overflow_add-at
-overflow_add-at g c =
-    record {
-      fits =
-          omega (
-            arith,
-            ap length (sym c.loop-pair.invariant.stands ∙ c.in-Some.ensures.steps),
-            length-drop c.loop-pair.at c.args.table.now,
-            c.len.ensures,
-            c.len.type_inv,
-          );
     }

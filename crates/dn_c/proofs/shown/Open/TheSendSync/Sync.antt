@@ -6,7 +6,6 @@ use denote.Struct.Owning.{shape, to}
 use denote.Param.Send.{IsSync, struct_sync, sendable}
 use Rattle.std.specs.Prelude.{Option, None, Some}
 use Rattle.std_alloc.proofs.SendSync.{seen}
-use Rattle.std_heap.proofs.Global.TheSendSync as handle
 use Rattle.dn_c.specs.State.Sealed.{seal_shares}
 use Rattle.dn_c.specs.contracts.work.Work as Work
 use Rattle.dn_c.proofs.work.Work.TheSendSync.{the_sync as work}
@@ -19,8 +18,7 @@ keyless p (Some w) κ = seen Work.the_row work p w κ
 pub sync : IsSync the_row
 sync = record {
   shared = λ d b o κ. (
-    (struct_sync (shape the_type)
-        (search sendable, (handle.the_field_sync, tt))).shared (to the_type d) b o κ,
+    (struct_sync (shape the_type) (search sendable, tt)).shared (to the_type d) b o κ,
     keyless d.ptr d.work κ,
   );
 }

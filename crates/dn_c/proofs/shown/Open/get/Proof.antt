@@ -1,169 +1,64 @@
 -- `get` reads the pointer through the `&`, and lends what a full seal shares.
-use mathlib.Core.Path.{refl, subst}
-use Prim.Native.Nat.{ℕ, zero, suc, ◌+◌}
-use mathlib.Core.List.{List, [], ◌∷◌}
-use seplogic.Ra.Ura.{Ura}
-use mir.Syntax.{Body, named, place, copy, assign, rv_opd, seq, return}
-use mir.Val.{Val, vptr}
-use base.Logic.{SProp, ent, sep}
-use base.Fml.{Lft, Share, Fml, ftrue, fhide, flft}
-use prog.Wp.{Calls, Loops, WpFn, Tables}
-use types.Logic.{Logic, sem}
-use sound.WpLaws.{WpFn-mono}
-use types.Kit.{at_ret, ‵, ◌⊛◌, ◌$◌, ◌∵◌, !, qed, by, move, keep, use1, drop, split, join, fsplit, fjoin, feq_i, raw, suffices, frame, done}
-use types.Run.{look, init, forget, stop, hop, fld, from, load, of_opd, assigns, assigns_last, first, blocks, exec, returns, enter, alloc1, alloc0, params1, pass1, pass0, free1, free0, addr}
-use prog.Memory.{Memory}
-use prog.Routine.{Routine}
-use contract.Monad.{Fun, fact}
-use types.ByLocal.{env}
-use denote.Exit.{yes}
-use denote.RattleType.{RattleType, RowLaws, owns}
-use denote.Memory.{hidden_shr}
-use denote.Opens.{shr_dup, unhide, hide}
-use denote.RawPtr.{Ptr, RawPtr, block_of, count_of, InBlock, ptr_row_laws}
-use denote.Ref.{Bor, ShrRef, shr_vals, shr_Tells}
-use denote.Signature.{plain}
-use denote.Steps.{heard, nothing}
-use denote.Struct.Struct.{Struct, Struct-row_laws}
-use denote.Struct.Owning.{shape, to}
-use denote.Struct.Lending.{in_block_says, lent_out}
-use denote.Triple.Entry.{on_entry}
-use denote.Triple.Spec.{Meets, triple_of}
-use denote.Triple.Walked.{says, Stays, stay_none_ref, walk_of, ends_at, walked, Goes-none_ref, walk_Meets}
-use contract.Running.{tables, tables_of}
-use denote.Triple.Table.{entered}
-use Rattle.std_alloc.proofs.Words.{pointer_in, pointer_out}
-use Rattle.std_heap.specs.contracts.Global as Heap
-use Rattle.std_heap.proofs.Global.TheLaws as heap
-use Rattle.std.specs.Prelude.{Option, Some, None, IsSome}
-use Rattle.std.specs.Global.{Global}
-use lib.Dec.{T}
-use mathlib.Core.Bool.{Bool, not}
-use Rattle.dn_c.specs.contracts.work.Work as Work
-use Rattle.dn_c.specs.contracts.shown.Open as Sealed
-use Rattle.dn_c.proofs.shown.Open.TheLaws as sealed
-use Rattle.dn_c.specs.contracts.shown.Open.get as F
-use Rattle.dn_c.specs.contracts.shown.Open.get.Key.{name as #self}
-use Rattle.dn_c.proofs.shown.Open.get.Statement as stated
+use Rattle.dn_c.proofs.Steps.{rewrite, refl, sym, ◌+◌, List, [], ◌∷◌, named, Val, vptr, ent, sep, ftrue, fhide, flft, fact, tables, sem, ‵, raw, ◌⊛◌, at_ret, ◌$◌, ◌∵◌, !, qed, done, move, keep, use1, drop, split, join, fsplit, fjoin, feq_i, suffices, look, stop, hop, fld, of_opd, first, blocks, exec, returns, enter, addr, alloc_all, pass_all, free_all, look_at, get, through, sets, env, yes, RattleType, hidden_shr, shr_dup, unhide, hide, RawPtr, block_of, count_of, InBlock, ptr_row_laws, ShrRef, shr_vals, shr_Tells, plain, heard, nothing, proved, Struct, Struct-row_laws, shape, to, in_block_says, lent_out, says, Stays, stay_none_ref, walk_of, ends_at, Goes-none_ref, pointer_in, pointer_out, Option, IsSome, Logic, Ura, Lft, ℕ}
+use types.ByLocal.{sets_last}
+use Rattle.dn_c.proofs.AsBox.{some_of}
+use Rattle.dn_c.specs.State.Sealed.{seal_shares}
+use Rattle.dn_c.specs.contracts.work.Work.{the_row as R}
+use Rattle.dn_c.specs.contracts.shown.Open as Open
+use Rattle.dn_c.proofs.shown.Open.TheLaws.{the_row_laws as laws}
+use Rattle.dn_c.specs.contracts.shown.Open.get as f
+use Rattle.dn_c.proofs.shown.Open.get.Statement.{statement}
 use Rattle.dn_c.proofs.shown.Open.get.Code as code
 
-abbrev rest : Body
-rest = seq (assign (place 0 []) (rv_opd (copy (place 2 [])))) return
-
 abbrev B : RattleType
-B = Sealed.the_row
-
-abbrev R : RattleType
-R = Work.the_row
+B = Open.the_row
 
 abbrev Words : RattleType
-Words = Struct (shape Sealed.the_type)
+Words = Struct (shape Open.the_type)
 
-words_laws : RowLaws Words
-words_laws = Struct-row_laws (shape Sealed.the_type) (ptr_row_laws, (heap.the_field_shared.shr_laws, tt))
-
-abbrev stayed : Stays (F.ended).signature.params (F.ended).kept
+abbrev stayed : Stays f.ended.signature.params f.ended.kept
 stayed = (stay_none_ref (0 ∷ []) tt (plain (λ _. B)) yes, tt)
 
-module _ {M : Type 1} {𝓤 : Ura M} (𝓛 : Logic 𝓤) (at_mem : Memory → SProp 𝓤) (run : Routine → Fun 𝓤) where
-  open 𝓛 use {H, A}
+-- a `&` to the fields is one to the pointer
+shows_ptr : {M : Type 1} {𝓤 : Ura M} (𝓛 : Logic 𝓤) (κ : Lft) (d : B.Denot) (b o : ℕ)
+    → let S = hidden_shr Words κ (to Open.the_type d) b o in
+    ent 𝓤 (sem 𝓛 S) (sep 𝓤 (sem 𝓛 (hidden_shr RawPtr κ d.ptr b (o + 0))) (sem 𝓛 S))
+shows_ptr 𝓛 κ d b o =
+    qed 𝓛 (‵ (hidden_shr Words κ (to Open.the_type d) b o) ∷ []) ∵
+    shr_dup ! Words (Struct-row_laws (shape Open.the_type) (ptr_row_laws, tt)) (to Open.the_type d) b o κ $ unhide ! $
+    fsplit ! $ fsplit ! $ hide ! $ keep ! (0 ∷ 3 ∷ []) $ done !
 
-  module _ (κ : Lft) (q : Share) (b o : ℕ) (ptr : Ptr) (al : Global) (w : R.Denot) where
-    abbrev d : B.Denot
-    d = record { ptr = ptr; alloc = al; work = Some w }
-
-    abbrev self : Bor B.Denot
-    self = record { ref_ptr = (b, o); now = d }
-
-    abbrev bound : (walk_of 𝓛 F.ended stayed (F.clauses 𝓛 at_mem run)).Ghost
-    bound = (((κ, tt), (q, tt), tt, (self, tt), (vptr b o ∷ [], tt)), tt)
-
-    abbrev Post : Val → SProp 𝓤
-    Post = (walk_of 𝓛 F.ended stayed (F.clauses 𝓛 at_mem run)).post bound
-
-    abbrev at : ℕ × ℕ
-    at = (block_of d.ptr, count_of d.ptr)
-
-    abbrev fields : Words.Denot
-    fields = to Sealed.the_type d
-
-    abbrev S : Fml
-    S = hidden_shr Words κ fields b o
-
-    shows_ptr : ent 𝓤 (sem 𝓛 S) (sep 𝓤 (sem 𝓛 (hidden_shr RawPtr κ d.ptr b (o + 0))) (sem 𝓛 S))
-    shows_ptr =
-        qed 𝓛 (‵ S ∷ []) ∵ shr_dup ! Words words_laws fields b o κ $ unhide ! $ fsplit ! $ fsplit ! $ hide ! $
-        keep ! (0 ∷ 3 ∷ []) $ done !
-
-    exits : ent 𝓤 (sep 𝓤 (A.lft κ q) (sep 𝓤 (sem 𝓛 (hidden_shr B κ d b o)) (sem 𝓛 (hidden_shr R κ w at.0 at.1))))
-        (Post (vptr at.0 at.1))
-    exits =
-        qed 𝓛 (‵ (flft κ q) ∷ ‵ (hidden_shr B κ d b o) ∷ ‵ (hidden_shr R κ w at.0 at.1) ∷ []) ∵
-        suffices ! _ (ends_at 𝓛 F.ended stayed (F.clauses 𝓛 at_mem run) bound (vptr at.0 at.1)
-        (record { ref_ptr = at; now = w }) (tt, tt) (tt, tt)) $ says ! refl $
-        nothing ! $ move ! (1 ∷ 0 ∷ []) $ join ! $ frame ! $ feq_i ! (List Val) (vptr b o ∷ []) (vptr b o ∷ []) refl $
-        fjoin ! $ nothing ! $ move ! (1 ∷ 0 ∷ []) $ fjoin ! $ frame ! $
-        feq_i ! (List Val) (vptr at.0 at.1 ∷ []) (vptr at.0 at.1 ∷ []) refl $ fjoin ! $ done !
-
-    module _ (C : Calls 𝓤 H) (Λ : Loops 𝓤 H) where
-      walk : ent 𝓤 (on_entry 𝓛 F.signature (κ, tt) (q, tt) (self, tt) (vptr b o ∷ [], tt))
-          (WpFn 𝓤 H C Λ code.function (vptr b o ∷ []) Post)
-      walk =
-          qed 𝓛 ((‵ (flft κ q) ⊛ ‵ ftrue) ∷ ‵ (owns (ShrRef (named 0) κ B ∷ []) (self, tt) (vptr b o ∷ [], tt)) ∷ []) ∵
-          enter ! C Λ code.function (vptr b o ∷ []) _ $
-          alloc1 ! (λ l₀. alloc1 ! (λ l₁. alloc1 ! (λ l₂. alloc0 ! $ params1 ! $ pass1 ! (init ! 2 refl (tt, tt)) $
-          pass0 ! $
-          let En = env code.function.locals (λ i. elim i [ zero ↦ l₀ | suc j ↦ elim j [ zero ↦ l₁ | suc _ ↦ l₂ ] ]) in
-          move ! (7 ∷ []) $
-          fsplit ! $ fsplit ! $ drop ! $ shr_dup ! B sealed.the_row_laws.shr_laws d b o κ $
-          use1 𝓛 (‵ (hidden_shr Words κ fields b o) ⊛ ‵ (fhide (Sealed.the_lent d d.ptr κ)))
-          (lent_out 𝓛 Sealed.struct (Sealed.the_codes Heap.the_row.coded) Sealed.the_heap Sealed.the_lent κ d b o) $
-          split ! $
-          move ! (1 ∷ []) $
-          unhide ! $ fsplit ! $ use1 𝓛 (raw (fact 𝓤 (InBlock d.ptr))) (in_block_says 𝓛 d.ptr) $
-          heard ! (InBlock d.ptr) (λ inb. hide ! $
-          move ! (10 ∷ []) $
-          split ! $
-          move ! (3 ∷ 0 ∷ []) $
-          first ! $ blocks ! $
-          pointer_in ! tt d.ptr inb b (o + 0) shows_ptr (λ q'.
-          assigns_last ! (addr ! (from ! (hop ! (look ! 10 refl) (fld ! refl (hop ! (look ! 1 refl) (stop !))))))
-          (from ! (stop !)) (init ! 8 refl (tt, tt)) $
-          exec ! C Λ En rest (at_ret En Post) $
-          pointer_out ! tt d.ptr inb b (o + 0) $
-          assigns ! (of_opd ! (load ! (from ! (stop !)) (look ! 6 refl))) (from ! (stop !)) (init ! 10 refl (tt, tt)) $
-          returns ! (look ! 10 refl) $
-          forget ! 6 refl $ forget ! 8 refl $ forget ! 10 refl $ move ! (10 ∷ 11 ∷ []) $ free1 ! $ move ! (8 ∷ 9 ∷ []) $
-          free1 ! $ move ! (6 ∷ 7 ∷ []) $ free1 ! $ free0 ! $
-          keep ! (0 ∷ 4 ∷ 3 ∷ []) $
-          by ! exits)))))
-
-  each : (C : Calls 𝓤 H) (Λ : Loops 𝓤 H) (κ : Lft) (q : Share) (b o : ℕ) (p : Ptr) (al : Global) (w : Option R.Denot) →
-      IsSome w →
-      let self : Bor B.Denot = record { ref_ptr = (b, o); now = record { ptr = p; alloc = al; work = w } } in
-      ent 𝓤 (on_entry 𝓛 F.signature (κ, tt) (q, tt) (self, tt) (vptr b o ∷ [], tt))
-      (WpFn 𝓤 H C Λ code.function (vptr b o ∷ []) ((walk_of 𝓛 F.ended stayed (F.clauses 𝓛 at_mem run)).post
-      (((κ, tt), (q, tt), tt, (self, tt), (vptr b o ∷ [], tt)), tt)))
-  each C Λ κ q b o p al (Some w) full = walk κ q b o p al w C Λ
-  each C Λ κ q b o p al None full = absurd (subst (λ (s : Bool). T (not s)) full tt)
-
-  meets : (𝓣 : Tables 𝓤 H) → Meets 𝓛 F.signature (WpFn 𝓤 H 𝓣.C 𝓣.Λ code.function) (F.spec 𝓛 at_mem run)
-  meets 𝓣 =
-      walk_Meets 𝓛 F.ended stayed (Goes-none_ref 𝓛 1 (0 ∷ []) tt (plain (λ _. B)) yes, tt) (F.clauses 𝓛 at_mem run)
-      (WpFn 𝓤 H 𝓣.C 𝓣.Λ code.function) (WpFn-mono 𝓤 H 𝓛.laws 𝓣 code.function)
-      (walked 𝓛 F.ended stayed (F.clauses 𝓛 at_mem run) (WpFn 𝓤 H 𝓣.C 𝓣.Λ code.function) (λ κs. (shr_vals, tt))
-      (λ κs. (shr_Tells (named 0) κs.0 B, tt))
-      (λ κs qs bounds a g are.
-      let d = a.0.now in
-      qed 𝓛 (raw (on_entry 𝓛 F.signature (κs.0, tt) (qs.0, tt) (a.0, tt) (vptr a.0.ref_ptr.0 a.0.ref_ptr.1 ∷ [], tt)) ∷
-      raw (fact 𝓤 (IsSome d.work)) ∷ []) ∵
-      move ! (1 ∷ []) $
-      heard ! (IsSome d.work) (λ full. by ! (each 𝓣.C 𝓣.Λ κs.0 qs.0 a.0.ref_ptr.0 a.0.ref_ptr.1 d.ptr d.alloc d.work
-      full))))
-
-pub get_spec : {M : Type 1} → stated.statement M
-unfolding tables_of
+pub get_spec : {M : Type 1} → statement M
 get_spec 𝓤 𝓛 𝓜 𝓡 wired =
-    let 𝓣 : Tables 𝓤 𝓛.H = tables_of 𝓤 𝓛.H 𝓜 (tables 𝓤 𝓛.H 𝓜 𝓡 𝓡.env) in
-    entered 𝓤 𝓛.H (triple_of 𝓛 F.signature (F.spec 𝓛 𝓜.mem 𝓡.returns)) 𝓣.C 𝓣.Λ #self code.function
-    (code.unfolded 𝓤 𝓛.H 𝓜 𝓡 wired) (meets 𝓛 𝓜.mem 𝓡.returns 𝓣)
+    let c = f.clauses 𝓛 𝓜.mem 𝓡.returns in let W = walk_of 𝓛 f.ended stayed c in let 𝓣 = tables 𝓤 𝓛.H 𝓜 𝓡 𝓡.env in
+    proved 𝓛 f.ended stayed c 𝓜 𝓡 (Goes-none_ref 𝓛 1 (0 ∷ []) tt (plain (λ _. B)) yes, tt)
+    f.Key.name code.function (code.unfolded 𝓤 𝓛.H 𝓜 𝓡 wired)
+    (λ κs. (shr_vals, tt)) (λ κs. (shr_Tells (named 0) κs.0 B, tt)) (λ κs qs bounds a g are.
+    let κ = κs.0 in let b = a.0.ref_ptr.0 in let o = a.0.ref_ptr.1 in let d = a.0.now in
+    let y : W.Ghost = ((κs, qs, bounds, a, (shr_vals a.0, tt)), tt) in
+    qed 𝓛 (((‵ (flft κ qs.0) ⊛ ‵ ftrue) ⊛ (‵ ((ShrRef (named 0) κ B).own_val a.0 (shr_vals a.0)) ⊛ ‵ ftrue)) ∷
+    raw (fact 𝓤 (IsSome d.work)) ∷ []) ∵ move ! (1 ∷ []) $ heard ! (IsSome d.work) (λ full.
+    let found = some_of d.work full in
+    split ! $ split ! $ move ! (2 ∷ []) $ split ! $ keep ! (0 ∷ 2 ∷ []) $ fsplit ! $ drop ! $
+    shr_dup ! B laws.shr_laws d b o κ $
+    use1 𝓛 (‵ (hidden_shr Words κ (to Open.the_type d) b o) ⊛ ‵ (fhide (seal_shares d.ptr d.work κ)))
+    (lent_out 𝓛 Open.struct Open.the_codes Open.the_heap Open.the_lent κ d b o) $ split ! $ move ! (1 ∷ []) $
+    rewrite ! 0 (λ (w : Option R.Denot). ‵ (fhide (seal_shares d.ptr w κ))) found.1 refl $
+    unhide ! $ fsplit ! $ use1 𝓛 (raw (fact 𝓤 (InBlock d.ptr))) (in_block_says 𝓛 d.ptr) $ heard ! (InBlock d.ptr)
+    (λ inb.
+    hide ! $
+    -- [the work; the words; self; the token]
+    enter ! _ _ _ _ _ $ alloc_all ! (λ l. pass_all ! refl ((tt, tt), tt) $ move ! (1 ∷ 3 ∷ []) $ first ! $ blocks ! $
+    pointer_in ! tt d.ptr inb b (o + 0) (shows_ptr 𝓛 κ d b o) (λ q.
+    sets_last ! (addr ! (through ! refl (fld ! refl (hop ! (look ! 1 refl) (stop !))))) refl (tt, tt) $
+    exec ! 𝓣.C 𝓣.Λ (env code.Mir.locals l) code.Mir.t-2 (at_ret _ (W.post y)) $
+    pointer_out ! tt d.ptr inb b (o + 0) $
+    sets ! (of_opd ! (get ! refl)) refl (tt, tt) $ returns ! (look_at ! 0 refl) $ free_all ! refl $
+    -- [the token; the words; the work; self]
+    let at : ℕ × ℕ = (block_of d.ptr, count_of d.ptr) in
+    suffices ! _ (ends_at 𝓛 f.ended stayed c y (vptr at.0 at.1) (record { ref_ptr = at; now = found.0 }) (tt, tt)
+    (tt, tt)) $
+    says ! (sym found.1) $ keep ! (2 ∷ 3 ∷ 0 ∷ []) $
+    feq_i ! (List Val) (vptr at.0 at.1 ∷ []) (vptr at.0 at.1 ∷ []) refl $ fjoin ! $ move ! (1 ∷ []) $
+    feq_i ! (List Val) (vptr b o ∷ []) (vptr b o ∷ []) refl $ fjoin ! $ nothing ! $ move ! (1 ∷ 0 ∷ []) $ join ! $
+    move ! (0 ∷ 1 ∷ []) $ join ! $ nothing ! $ move ! (2 ∷ 0 ∷ []) $ join ! $ join ! $ done !)))))
