@@ -1,5 +1,5 @@
-"""Runs `dnorm-files`, as `python3 FILE` with this file. Python then looks for modules in the folder of the file, and
-not in the current one, as it does for `python3 -m dnorm`."""
+"""Runs `dnorm-files` or `dnorm-explain`, as `python3 FILE NAME ..` with this file and the name of the command. Python
+then looks for modules in the folder of the file, and not in the current one, as it does for `python3 -m dnorm`."""
 
 # Python's own part of the module signal, which takes no time. Until the command is there, Ctrl-C just ends the process,
 # unless it is ignored.
@@ -14,7 +14,10 @@ if getattr(sys.flags, "safe_path", False):
     sys.path.insert(0, __file__.rpartition("/")[0])
 
 # What takes the time comes after this.
-from dnorm.commands.line import main  # noqa: E402
+if sys.argv.pop(1) == "dnorm-explain":
+    from dnorm.commands.explain import main
+else:
+    from dnorm.commands.line import main
 
 _signal.signal(_signal.SIGINT, handler)
 sys.exit(main())

@@ -1,5 +1,5 @@
-"""Tests the calls of the Python package on the tables of known.py, on examples/refused and on random texts, with files
-as paths, bytes, streams and compressed files, and with programs that print other lines than dnorm."""
+"""Tests the calls of the Python package on examples/refused and on random texts, with files as paths, bytes, streams
+and compressed files, and with programs that print other lines than dnorm."""
 
 import bz2
 import contextlib
@@ -13,16 +13,17 @@ import pickle
 import random
 import re
 import signal
+import sys
 from collections.abc import Callable
 from concurrent.futures import ThreadPoolExecutor
 from pathlib import Path
-from typing import Literal
+from typing import Any, Literal
 
 import pytest
-from known import COSTS, ROADS, ROADS_CANON, rows
+from known import COSTS, ROADS, ROADS_CANON
 from reading import COUNTED, Fault, Text, canonical, read
 from refusal_table import with_example
-from shared import ROOT, bytes_of, run, write
+from shared import ROOT, Answer, bytes_of, run, write
 from texts import lines_of, made, spelled
 
 import dnorm
@@ -46,15 +47,10 @@ REFUSED = f"{ROOT}/examples/refused"
 SEED, ROUNDS = 55, 150
 
 
-def shown_lines(shown: dnorm.Shown) -> str:
-    """Returns the lines that `dnorm show` prints."""
-    ends = {dnorm.LengthPair: "length {}", dnorm.CapacityPair: "total {}", dnorm.CostPair: "forced {} cost {} steps {}"}
-    heads = {it: getattr(shown, it) for it in ["kind", "nodes", "lines", "supplies", "source", "sink"]}
-    lines = [f"{name} {value}" for name, value in heads.items() if value is not None]
-    if shown.nodes is not None:
-        lines.append(f"pairs {len(shown.pairs)}")
-    lines += [f"pair {it.tail} {it.head} {ends[type(it)].format(*it[2:])}" for it in shown.pairs]
-    return "\n".join([*lines, ""])
+def python(code: str, *words: str, **more: Any) -> Answer:
+    """Runs this Python on this code, with the package."""
+    own = {"PYTHONPATH": PACKAGE, "PYTHONDONTWRITEBYTECODE": "1"}
+    return run([sys.executable, "-c", code, *words], env={**os.environ, **own}, **more)
 
 
 def told(call: Callable[[], object]) -> str:
@@ -64,101 +60,43 @@ def told(call: Callable[[], object]) -> str:
         answer = call()
     except (dnorm.DnormError, TypeError, ValueError, OverflowError, MemoryError) as error:
         return f"{type(error).__name__}: {error}"
-    if isinstance(answer, dnorm.Shown):
-        return shown_lines(answer)
     if isinstance(answer, dnorm.Checked):
         fits = f"fits {answer.fits}\n" if answer.fits else ""
         return f"accepted {answer.kind}\n{fits}forms {' '.join(map(str, answer.forms)) or 'none'}\n"
     return answer.decode() if isinstance(answer, bytes) else f"{answer}\n"
 
 
-def called(words: str, file: Callable[[str], dnorm.File]) -> object:
-    """Calls what a command line asks for. `file` returns the file of a name."""
-    options, names, rest = {"--form": "1", "--with": ""}, [], iter(words.replace("=", " ").split() or ["canon", "-"])
-    for word in rest:
-        if word in options:
-            options[word] = next(rest)
-        else:
-            names.append(word)
-    command, *files = names[0], *map(file, names[1:])
-    if command == "canon":
-        return dnorm.canon(files[0], FORMS[int(options["--form"]) - 1])
-    if command == "compare":
-        return dnorm.compare(files[0], files[1])
-    if command == "show":
-        return dnorm.show(files[0])
-    return dnorm.check(files[0], file(options["--with"]) if options["--with"] else None)
-
-
-class Manner:
-    """A way to give texts: their files by the names of the texts, and the names that errors have. A name that is no
-    text's is the path of a missing file."""
-
-    def __init__(self, title: str, named: dict[str, bytes]) -> None:
-        self.title, self.named = title, named
-        for name, text in named.items():
-            write(self.shown(name), COMPRESS[title](text) if title in COMPRESS else text)
-
-    def file(self, name: str) -> dnorm.File:
-        if name not in self.named:
-            return name
-        if self.title == "bytes" or self.title == "path" and name == "-":
-            return self.named[name]
-        return io.BytesIO(self.named[name]) if self.title == "stream" else self.shown(name)
-
-    def shown(self, name: str) -> str:
-        if name not in self.named or self.title == "path":
-            return name
-        return name + self.title if self.title in COMPRESS else "-"
-
-
-MANNERS = ["path", "bytes", "stream", *COMPRESS]
-
-
-@pytest.mark.parametrize("title", MANNERS)
-def test_table(title: str) -> None:
-    """All rows of known.py that the program does not refuse as command lines."""
-    for words, named, out, err, status in rows():
-        if status != 3:
-            it = Manner(title, named)
-            wanted = out.decode()
-            for name in [*named, "missing"]:
-                if err.startswith(f"{name}:".encode()):
-                    wanted = f"Refused: {it.shown(name)}{err.decode()[len(name) : -1]}"
-            if status == 4:
-                wanted = "Read: missing: 31 Read (No such file or directory)"
-            assert told(lambda: called(words, it.file)) == wanted, f"{words} of {named}, by {it.title}"
-
-
 CALLS: dict[str, Callable[[dnorm.File], object]] = {
-    "check": dnorm.check,
-    "canon": dnorm.canon,
-    "canon_to": lambda file: dnorm.canon_to(file, io.BytesIO()),
-    "checksum": dnorm.checksum,
-    "show": dnorm.show,
-    "read": dnorm.read,
-    "compare, left": lambda file: dnorm.compare(file, ROADS),
-    "compare, right": lambda file: dnorm.compare(ROADS, file),
+    "check": dnorm.check, "canon": dnorm.canon, "canon_to": lambda file: dnorm.canon_to(file, io.BytesIO()),
+    "checksum": dnorm.checksum, "read": dnorm.read,
+    "compare, left": lambda file: dnorm.compare(file, ROADS), "compare, right": lambda file: dnorm.compare(ROADS, file),
     "check, companion": lambda file: dnorm.check(ROADS, file),
-}
+}  # fmt: skip
 
 
 @BOTH
-def test_refused(tested: str) -> None:
-    """Every call with every text of examples/refused."""
-    numbers = []
-    for name in sorted(os.listdir(REFUSED)):
-        number, word = re.split("[-.]", name)[:2]
-        numbers.append(int(number))
-        with open(f"{REFUSED}/{name}", "rb") as file:
-            text = file.read()
-        line = run([tested, "check", f"{REFUSED}/{name}"]).err.decode().rpartition(f"{name}:")[2]
-        assert line.partition(": ")[2] == f"{int(number)} {word}\n", f"the refusal of {name}"
-        for it in [Manner(title, {name: text}) for title in MANNERS]:
-            for call, of in CALLS.items():
-                wanted = f"Refused: {it.shown(name)}:{line[:-1]}"
-                assert told(lambda: of(it.file(name))) == wanted, f"{call} of {name}, by {it.title}"
-    assert numbers == [it.number for it in with_example()], "the refusals in examples/refused"
+@pytest.mark.parametrize("name", sorted(os.listdir(REFUSED)))
+def test_refused(tested: str, name: str) -> None:
+    """Every call with every text of examples/refused: as a path, bytes, a stream and compressed files. Errors name a
+    path by itself, and what has no name by `-`."""
+    text = bytes_of(f"{REFUSED}/{name}")
+    line = run([tested, "check", f"{REFUSED}/{name}"]).err.decode().rpartition(f"{name}:")[2].rstrip()
+    number, word = re.split("[-.]", name)[:2]
+    assert line.partition(": ")[2] == f"{int(number)} {word}"
+    write(name, text)
+    for end, pack in COMPRESS.items():
+        write(name + end, pack(text))
+    for call, of in CALLS.items():
+        for path in [name, *(name + end for end in COMPRESS)]:
+            assert told(lambda: of(path)) == f"Refused: {path}:{line}", f"{call} of {path}"
+        files: list[dnorm.File] = [text, io.BytesIO(text)]
+        for file in files:
+            assert told(lambda: of(file)) == f"Refused: -:{line}", f"{call} of a {type(file).__name__}"
+
+
+def test_all_refused() -> None:
+    numbers = [int(name.partition("-")[0]) for name in sorted(os.listdir(REFUSED))]
+    assert numbers == [it.number for it in with_example()]
 
 
 # What a program prints on standard error with its status, and what that is: only these lines are known.
@@ -167,41 +105,21 @@ LINES = [
     ("-:9223372036854775807: 21 TooLong", 2, "Refused: -:9223372036854775807: 21 TooLong"),
     ("-:end: 18 NoProblem", 2, "Refused: -:end: 18 NoProblem"),
     ("-: 34 CountTooLarge", 2, "Refused: -: 34 CountTooLarge"),
-    ("-: 35 NotInGraph 7", 2, "Refused: -: 35 NotInGraph 7"),
-    ("-: 36 NotKinds", 2, "Refused: -: 36 NotKinds"),
-    ("-: 30 Memory", 4, "Memory: -: 30 Memory"),
-    ("dnorm: 30 Memory", 4, "Memory: dnorm: 30 Memory"),
-    ("-: 31 Read", 4, "Read: -: 31 Read"),
-    ("-: 32 Endless", 4, "Endless: -: 32 Endless"),
+    ("-: 35 NotInGraph 7", 2, "Refused: -: 35 NotInGraph 7"), ("-: 36 NotKinds", 2, "Refused: -: 36 NotKinds"),
+    ("-: 30 Memory", 4, "Memory: -: 30 Memory"), ("dnorm: 30 Memory", 4, "Memory: dnorm: 30 Memory"),
+    ("-: 31 Read", 4, "Read: -: 31 Read"), ("-: 32 Endless", 4, "Endless: -: 32 Endless"),
     ("out: 33 Write", 4, "Write: out: 33 Write"),
-]
+]  # fmt: skip
 # Lines that no run prints, with their status.
 OTHER_LINES = [
-    ("", 2),
-    ("-:7: 17 SumTooLarge", 4),
-    ("-:7: 17 SumTooLarge", 3),
-    ("-:7: 17 SumTooSmall", 2),
-    ("-:7: 22 SumTooLarge", 2),
-    ("-:7: 17 SumTooLarge 7", 2),
-    ("-:7:17 SumTooLarge", 2),
-    ("-: 17 SumTooLarge", 2),
-    ("-:seven: 17 SumTooLarge", 2),
-    ("x:7: 17 SumTooLarge", 2),
-    ("out:7: 17 SumTooLarge", 2),
-    ("/dev/fd/99:7: 17 SumTooLarge", 2),
-    ("-:7: 17 SumTooLarge\n-:8: 17 SumTooLarge", 2),
-    ("-:7: 34 CountTooLarge", 2),
-    ("-: 34 CountTooLarge", 4),
-    ("-: 35 NotInGraph", 2),
-    ("-: 36 NotKinds 7", 2),
-    ("-: 30 Memory", 2),
-    ("-:7: 30 Memory", 4),
-    ("out: 30 Memory", 4),
-    ("dnorm: 31 Read", 4),
-    ("-: 33 Write", 4),
-    ("dnorm: bad command line", 3),
-    ("out of memory", 137),
-]
+    ("", 2), ("-:7: 17 SumTooLarge", 4), ("-:7: 17 SumTooLarge", 3), ("-:7: 17 SumTooSmall", 2),
+    ("-:7: 22 SumTooLarge", 2), ("-:7: 17 SumTooLarge 7", 2), ("-:7:17 SumTooLarge", 2), ("-: 17 SumTooLarge", 2),
+    ("-:seven: 17 SumTooLarge", 2), ("x:7: 17 SumTooLarge", 2), ("out:7: 17 SumTooLarge", 2),
+    ("/dev/fd/99:7: 17 SumTooLarge", 2), ("-:7: 17 SumTooLarge\n-:8: 17 SumTooLarge", 2), ("-:7: 34 CountTooLarge", 2),
+    ("-: 34 CountTooLarge", 4), ("-: 35 NotInGraph", 2), ("-: 36 NotKinds 7", 2), ("-: 30 Memory", 2),
+    ("-:7: 30 Memory", 4), ("out: 30 Memory", 4), ("dnorm: 31 Read", 4), ("-: 33 Write", 4),
+    ("dnorm: bad command line", 3), ("out of memory", 137),
+]  # fmt: skip
 
 
 def fake(name: str, body: str) -> str:
@@ -232,58 +150,18 @@ def test_failures() -> None:
 
 # Standard output that no run prints, by the call; with a status if that is not 0.
 OUTPUTS = {
-    "check": ["", "accepted sp\n", "accepted SP\nforms 1\n", "accepted sp\nforms 3\n", "accepted sp\nforms 1", "same\n"]
-    + [
-        "accepted sp\nfits sp\nforms 1\n",
-        "accepted sp\nfits ss\nforms 1\n",
-        "accepted sp\nforms 1\n\n",
-        "accepted sp\nforms 2 1\n",
-    ],
-    "show": [
-        "",
-        "kind ss\n",
-        "kind xs\nlines 1\n",
-        "kind ss\nlines x\n",
-        "kind ss\nlines 1\npairs 0\n",
-        "kind ss\nlines 1",
-    ]
-    + ["kind sp\nnodes 2\nlines 1\npairs 1\n", "kind sp\nnodes 2\nlines 1\npairs 0\npair 1 2 length 3\n"]
-    + ["kind sp\nnodes 2\nlines 1\npairs 1\npair 1 2 total 3\n", "kind max\nnodes 2\nlines 1\npairs 0\n"]
-    + [
-        "kind sp\nnodes 2\nlines 1\npairs 1\npair 1 2 length 3",
-        "kind sp\nnodes 2\nlines 1\npairs 1\npair 1 2 length \n",
-    ],
-    "compare": [
-        "",
-        "same",
-        "differ\n",
-        "differ kind sp xs\n",
-        "differ nodes 1 none\n",
-        "differ item 1 2\n",
-        "same\nsame\n",
-    ]
-    + ["differ pair 1 2 length 3\n", "differ pair 1 2 amount 3 cost 4\n", "differ supply 1 2\n", "differ nodes 1 2"],
-    "read": ["", "p sp 0 0", "p sp 0 1\n", "p sp 2 1\na 1 2 3\na 1 2 4\n", "p xs 0 0\n", "p sp 2 1\na 1 2\n"]
-    + [
-        "p sp 2 1\na 1 2 +3\n",
-        "p sp 2 1\na 1 2 1_0\n",
-        "p sp 2 1\nb 1 2 3\n",
-        "p sp 2 1\na 1 2 3 4\n",
-        "p sp 2 1\na 1 2 3",
-    ]
-    + [
-        f"p sp 2 1\na {it}\n"
-        for it in ["1-2 3", "1-2 3 4", "1 2 -", "1 2 --3", "1 2 3-", "1 a2 3", "1 2 3a", "1  2", "-"]
-    ]
-    + ["p sp 2 2\na 1 2 3\na 1 2\n4\n", "p sp 2 1\na 1 2 9223372036854775808\n", "p sp 2 1\nn 1 1\na 1 2 3\n"]
-    + [
-        "p max 2 0\nn 1 s\n",
-        "p max 2 0\nn 1 s\nn 2 x\n",
-        "p min 2 0\nn 1\n",
-        "p min 2 0\nx 1 2\n",
-        "p max 2 0\nn s 1\n",
-    ],
-}
+    "check": ["", "accepted sp\n", "accepted SP\nforms 1\n", "accepted sp\nforms 3\n", "accepted sp\nforms 1", "same\n",
+              "accepted sp\nfits sp\nforms 1\n", "accepted sp\nfits ss\nforms 1\n", "accepted sp\nforms 1\n\n",
+              "accepted sp\nforms 2 1\n"],
+    "compare": ["", "same", "differ\n", "differ kind sp xs\n", "differ nodes 1 none\n", "differ item 1 2\n",
+                "same\nsame\n", "differ pair 1 2 length 3\n", "differ pair 1 2 amount 3 cost 4\n",
+                "differ supply 1 2\n", "differ nodes 1 2"],
+    "read": ["", "p sp 0 0", "p sp 0 1\n", "p xs 0 0\n", "p sp 2 1\nb 1 2 3\n", "p sp 2 1\na 1 2 3",
+             "p sp 2 1\nn 1 1\na 1 2 3\n", "p sp 2 2\na 1 2 3\na 1 2\n4\n", "p max 2 0\nn 1 s\n",
+             "p max 2 0\nn 1 s\nn 2 x\n", "p max 2 0\nn s 1\n", "p min 2 0\nn 1\n", "p min 2 0\nx 1 2\n",
+             *(f"p sp 2 1\na {it}\n" for it in ["1 2 3\na 1 2 4", "1 2", "1 2 +3", "1 2 1_0", "1 2 3 4", "1-2 3",
+               "1-2 3 4", "1 2 -", "1 2 --3", "1 2 3-", "1 a2 3", "1 2 3a", "1  2", "-", f"1 2 {2**63}"])],
+}  # fmt: skip
 
 
 @ALL
@@ -292,13 +170,12 @@ def test_outputs() -> None:
     program = fake("says", 'cat > /dev/null; printf "%s" "$OUT"; exit "$STATUS"')
     calls: dict[str, Callable[[], object]] = {
         "check": lambda: dnorm.check(ROADS, program=program),
-        "show": lambda: dnorm.show(ROADS, program=program),
         "compare": lambda: dnorm.compare(ROADS, b"", program=program),
         "read": lambda: dnorm.read(ROADS, program=program),
     }
     rows = [(call, out, 0) for call, outs in OUTPUTS.items() for out in outs]
     rows += [("compare", "same\n", 1), ("compare", "differ nodes 1 2\n", 0), ("check", "accepted sp\nforms 1\n", 1)]
-    rows += [("read", "p sp 0 0\n", 1), ("show", "kind ss\nlines 1\n", 1)]
+    rows += [("read", "p sp 0 0\n", 1)]
     for call, out, status in rows:
         os.environ.update(OUT=out, STATUS=str(status))
         found = told(calls[call])
@@ -310,21 +187,9 @@ def test_outputs() -> None:
 
 # Names of files. The bytes of some are not UTF-8, and some look like the line of a refusal or an option.
 NAMES = [
-    "a b",
-    " ",
-    "x\ny",
-    "-",
-    "--",
-    "-x",
-    "--form",
-    "a:7: 9 NotANumber",
-    "b: 31 Read",
-    "dnorm",
-    "out",
-    "é",
-    "\\",
+    "a b", " ", "x\ny", "-", "--", "-x", "--form", "a:7: 9 NotANumber", "b: 31 Read", "dnorm", "out", "é", "\\",
     "x" * 250,
-]
+]  # fmt: skip
 
 
 def test_names() -> None:
@@ -407,13 +272,9 @@ def rebuilt(it: dnorm.Instance) -> bytes:
 
 
 COLUMNS = {
-    "min": "tails heads lows caps costs",
-    "max": "tails heads capacities",
-    "sp": "tails heads lengths",
-    "ss": "sources",
-    "p2p": "sources targets",
-    "co": "ids xs ys",
-}
+    "min": "tails heads lows caps costs", "max": "tails heads capacities", "sp": "tails heads lengths", "ss": "sources",
+    "p2p": "sources targets", "co": "ids xs ys",
+}  # fmt: skip
 
 
 @ALL

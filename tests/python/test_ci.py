@@ -11,7 +11,7 @@ from xml.etree import ElementTree
 
 from known import ROADS
 from needs import leave_out
-from shared import ROOT, Answer, listed, run, text_of, write
+from shared import ROOT, Answer, listed, run, said, text_of, write
 from test_calls import READS
 
 pytestmark = READS
@@ -90,83 +90,41 @@ def test_workflow(tested: str) -> None:
     wanted = Answer(b"", b"1 accepted, 0 refused, 0 failed\n", 0)
     assert (found[-1], len(found)) == (wanted, 2), "a repository of accepted texts"
     write("texts/bad.gr", b"p sp 1 1\n")
-    lines = (
-        b"::error file=bad.gr,title=dnorm%3A 20 TooFewLines::./bad.gr:end: 20 TooFewLines%0AThere are fewer counted "
-    )
-    lines += b"lines than declared.%0Adeclared 1, found 0: only a, s, q and v lines count\n"
-    wanted = Answer(lines, b"1 accepted, 1 refused, 0 failed\n", 2)
-    assert runner.run()[-1] == wanted, "a repository with a refused text"
+    write("texts/a:b,c.ss", b"p aux sp ss 0\n")
+    lines = b"::warning file=a%3Ab%2Cc.ss::./a:b,c.ss: accepted ss, no graph\n"
+    lines += b"::error file=bad.gr,title=dnorm%3A 20 TooFewLines::./bad.gr:end: 20 TooFewLines%0AThere are fewer "
+    lines += b"counted lines than declared.%0Adeclared 1, found 0: only a, s, q and v lines count\n"
+    wanted = Answer(lines, b"2 accepted, 1 refused, 0 failed, 1 companion without a graph\n", 2)
+    assert runner.run()[-1] == wanted, "a repository with a refused text and a companion alone"
     suite = ElementTree.parse("temp/dnorm.xml").find("testsuite")
     assert (suite is not None and suite.get("failures")) == "1", "its report"
-    shutil.rmtree("texts/below")
-    os.remove("texts/bad.gr")
+    shutil.rmtree("texts")
+    os.mkdir("texts")
     assert runner.run()[-1].status == 4, "a repository without texts"
     write(f"release/dnorm-{VERSION}-x86_64-linux.tar.gz", b"other")
     found = runner.run()
     assert (len(found), found[0].status) == (1, 1), "a release with another checksum"
 
 
-# Names of files, and whether the hook for pre-commit looks at them.
-CHOSEN = {
-    "a.gr": True,
-    "a/b.min.gz": True,
-    "a.co.xz": True,
-    "A.GR": True,
-    "a.Gr.BZ2": True,
-    "a.gr.zip": True,
-    "a.co.zst": True,
-    "a.min.Z": True,
-    "a.gr.zipped": True,
-    "a.gr.gz.gz": True,
-    "a.gr.lzma": True,
-    "a.gr.": True,
-    "a.gr~": True,
-    "a.gr ": True,
-    "a.GR (1).gz": True,
-    "a.gr~.zst": True,
-    "a.gr-1.xz": True,
-    "a.gr2": True,
-    "a.gr001.gz": True,
-    "a.minold": True,
-    "a.min.old": True,
-    "a.max_new2.bz2": True,
-    "a.maxnew2.bz2": True,
-    "a.grolder": False,
-    "a.co2x": False,
-    "a.co-op.txt": False,
-    "a.co-op/notes": False,
-    "a.gr.d/notes.txt": False,
-    "jquery.min.js": False,
-    "page.MIN.css.map": False,
-    "a.min.jsx": True,
-    "agr": False,
-    "a.grx": False,
-    "a.grz": True,
-    "a.gz": False,
-}
-
-
 def test_pre_commit() -> None:
-    """The hook for pre-commit: which files it names, and how it is called."""
+    """The hook for pre-commit, and how it is called."""
     fields = fields_of_hook()
     wanted = {"id": "dnorm", "language": "script", "require_serial": "true"}
     assert {it: fields.get(it) for it in wanted} == wanted, "the hook"
-    found_ = {it: bool(re.search(fields["files"], it) and not re.search(fields["exclude"], it)) for it in CHOSEN}
-    assert found_ == CHOSEN, "its files"
     assert [fields["types"], fields["types_or"]] == ["[]", "[file, symlink]"], "its types"
     script = f"{ROOT}/{fields['entry']}"
     environment = {it: value for it, value in os.environ.items() if it != "PYTHONPATH"}
     environment["PYTHONDONTWRITEBYTECODE"] = "1"
     write("a.gr", ROADS)
     write("-b.gr", b"x\n")
-    found = run([script, "a.gr"], env=environment)
-    assert found == Answer(b"", b"1 accepted, 0 refused, 0 failed\n", 0), "an accepted file"
-    found = run([script, "a.gr", "-b.gr"], env=environment)
-    assert found == Answer(b"-b.gr:1: 1 BadLine\n", b"1 accepted, 1 refused, 0 failed\n", 2), "a refused file"
     write("a.max", ROADS)
-    line = b"a.max: accepted sp, its ending is that of max\n"
-    err = b"1 accepted, 0 refused, 0 failed, 1 file of another kind than its ending\n"
-    assert run([script, "a.max"], env=environment) == Answer(line, err, 0), "another kind"
-    line = b"a.max: 31 Read (accepted sp, its ending is that of max)\n"
-    found = run([script, "--strict", "a.max"], env=environment)
-    assert found == Answer(line, b"0 accepted, 0 refused, 1 failed\n", 4), "another kind with --strict"
+    other = "its ending is that of max"
+    rows: list[tuple[list[str], str, str, int]] = [
+        (["a.gr"], "", "1 accepted, 0 refused, 0 failed", 0),
+        (["a.gr", "-b.gr"], "-b.gr:1: 1 BadLine\n", "1 accepted, 1 refused, 0 failed", 2),
+        (["a.max"], f"a.max: accepted sp, {other}\n",
+         "1 accepted, 0 refused, 0 failed, 1 file of another kind than its ending", 0),
+        (["--strict", "a.max"], f"a.max: 31 Read (accepted sp, {other})\n", "0 accepted, 0 refused, 1 failed", 4),
+    ]  # fmt: skip
+    for words, out, count, status in rows:
+        assert run([script, *words], env=environment) == said(out, f"{count}\n", status), words

@@ -9,7 +9,6 @@ import re
 import signal
 import subprocess
 import sys
-import threading
 import time
 from typing import Any
 from xml.etree import ElementTree
@@ -20,7 +19,6 @@ from needs import terminal
 from shared import LIMIT, Answer, bytes_of, run, said, write
 from test_calls import BOTH, COMPRESS, PACKAGE, READS, fake
 
-from dnorm.commands.folders import Workers
 from dnorm.commands.tasks import DONE
 
 pytestmark = READS
@@ -47,20 +45,14 @@ def make(texts: dict[str, bytes]) -> None:
 
 # The files of a folder with what a check says of them, in the order of their names; and other files in it.
 SET: dict[str, tuple[bytes, str]] = {
-    "set/a-b.gr": (ROADS_CANON, ": accepted sp"),
-    "set/a/b/roads.sp": (ROADS, ": accepted sp"),
-    "set/a/flow.min": (COSTS_TWO, ": accepted min"),
-    "set/a/x.GR": (ROADS, ": accepted sp"),
+    "set/a-b.gr": (ROADS_CANON, ": accepted sp"), "set/a/b/roads.sp": (ROADS, ": accepted sp"),
+    "set/a/flow.min": (COSTS_TWO, ": accepted min"), "set/a/x.GR": (ROADS, ": accepted sp"),
     "set/bad.max": (b"p max 2 1\nn 1 s\na 1 2 5\n", ":end: 19 MissingTerminal"),
-    "set/flow.min": (COSTS, ": accepted min"),
-    "set/p.p2p": (b"p aux sp p2p 0\n", ": accepted p2p"),
-    "set/roads.gr": (ROADS, ": accepted sp"),
-    "set/roads.gr.bz2": (ROADS, ": accepted sp"),
-    "set/roads.gr.gz": (ROADS, ": accepted sp"),
-    "set/roads.gr.xz": (ROADS, ": accepted sp"),
-    "set/s.ss": (b"p aux sp ss 1\ns 1\n", ": accepted ss"),
-    "set/v.co": (b"p aux sp co 1\ns 1\n", ":2: 5 WrongLine"),
-}
+    "set/flow.min": (COSTS, ": accepted min"), "set/p.p2p": (b"p aux sp p2p 0\n", ": accepted p2p"),
+    "set/roads.gr": (ROADS, ": accepted sp"), "set/roads.gr.bz2": (ROADS, ": accepted sp"),
+    "set/roads.gr.gz": (ROADS, ": accepted sp"), "set/roads.gr.xz": (ROADS, ": accepted sp"),
+    "set/s.ss": (b"p aux sp ss 1\ns 1\n", ": accepted ss"), "set/v.co": (b"p aux sp co 1\ns 1\n", ":2: 5 WrongLine"),
+}  # fmt: skip
 OTHERS = ["set/notes.txt", "set/gr", "none/below/notes.txt", "set/.git/x.gr", "set/a/.svn/x.gr"]
 LINES = "".join(f"{name}{what}\n" for name, (_, what) in SET.items())
 LINES_A = LINES[LINES.index("set/a/") : LINES.index("set/bad")]
@@ -89,24 +81,14 @@ STRICT = "".join(
 CHECKS = [
     ("set", LINES, "11 accepted, 2 refused, 0 failed, 4 other files", 2),
     ("set set/roads.gr set", LINES, "11 accepted, 2 refused, 0 failed, 4 other files", 2),
-    ("--jobs 1 set", LINES, "11 accepted, 2 refused, 0 failed, 4 other files", 2),
-    ("-j 50 set", LINES, "11 accepted, 2 refused, 0 failed, 4 other files", 2),
     ("--strict set", STRICT, "11 accepted, 2 refused, 4 failed", 4),
-    (
-        "--strict --exclude gr --exclude *.txt --exclude *pipe* --exclude a/l* --exclude bad.max --exclude v.co set",
+    ("--strict --exclude gr --exclude *.txt --exclude *pipe* --exclude a/l* --exclude bad.max --exclude v.co set",
         LINES.replace("set/bad.max:end: 19 MissingTerminal\n", "").replace("set/v.co:2: 5 WrongLine\n", ""),
-        "11 accepted, 0 refused, 0 failed, 6 excluded",
-        0,
-    ),
-    (
-        "--exclude a --exclude *.gr* --exclude *.?o set",
-        "set/bad.max:end: 19 MissingTerminal\nset/flow.min: accepted min"
+        "11 accepted, 0 refused, 0 failed, 6 excluded", 0),
+    ("--exclude a --exclude *.gr* --exclude *.?o set", "set/bad.max:end: 19 MissingTerminal\nset/flow.min: accepted min"
         "\nset/p.p2p: accepted p2p\nset/s.ss: accepted ss\n",
-        "3 accepted, 1 refused, 0 failed, 3 other files, 7 excluded",
-        2,
-    ),
+        "3 accepted, 1 refused, 0 failed, 3 other files, 7 excluded", 2),
     ("set/a", LINES_A, "3 accepted, 0 refused, 0 failed, 1 other file", 0),
-    ("set/a/", LINES_A, "3 accepted, 0 refused, 0 failed, 1 other file", 0),
     ("set/a set/s.ss", f"{LINES_A}set/s.ss: accepted ss\n", "4 accepted, 0 refused, 0 failed, 1 other file", 0),
     ("set/gr set/a", f"{LINES_A}set/gr:1: 1 BadLine\n", "3 accepted, 1 refused, 0 failed, 1 other file", 2),
     ("set/s.ss set/gr", "set/gr:1: 1 BadLine\nset/s.ss: accepted ss\n", "1 accepted, 1 refused, 0 failed", 2),
@@ -114,20 +96,12 @@ CHECKS = [
     ("missing", MISSING, "0 accepted, 0 refused, 1 failed", 4),
     ("none", NONE, "0 accepted, 0 refused, 1 failed, 1 other file", 4),
     ("none set", NONE + LINES, "11 accepted, 2 refused, 1 failed, 5 other files", 4),
-    (
-        "--ending .TXT --ending=.zip set",
-        "set/notes.txt:1: 1 BadLine\n",
-        "0 accepted, 1 refused, 0 failed, 16 other files",
-        2,
-    ),
-    (
-        "--ending .x none",
-        f"none: 31 Read (no file in it ends in .x{NAMES_OTHERS}\n",
-        "0 accepted, 0 refused, 1 failed, 1 other file",
-        4,
-    ),
+    ("--ending .TXT --ending=.zip set", "set/notes.txt:1: 1 BadLine\n",
+        "0 accepted, 1 refused, 0 failed, 16 other files", 2),
+    ("--ending .x none", f"none: 31 Read (no file in it ends in .x{NAMES_OTHERS}\n",
+        "0 accepted, 0 refused, 1 failed, 1 other file", 4),
     ("-- set/s.ss", "set/s.ss: accepted ss\n", "1 accepted, 0 refused, 0 failed", 0),
-]
+]  # fmt: skip
 COMMANDS = ["check", "manifest", "same", "list", "compare"]
 # Numbers of Linux.
 PR_CAPBSET_DROP, CAP_DAC_OVERRIDE, CAP_DAC_READ_SEARCH = 24, 1, 2
@@ -139,27 +113,14 @@ WRONG = [
     *[f"{it} --timeout {seconds} set" for it in ("check", "list", "compare set") for seconds in NO_SECONDS],
     *[f"check --jobs {it} set" for it in ("nan", "-1", "1.5", "1e3")],
     *["check --output-format xml set", "check --csv set", "check --files0-from", "check --files0-from - -"],
-    *["check --staged=x set", "check --staged -q", "check --staged --incremental x", "manifest --staged"],
+    *["check --staged=x set", "check --staged -q", "check --incremental x set", "manifest --staged"],
     *["manifest", "manifest --form 3 set", "manifest --verify x --form 2", "manifest --verify x --output y"],
     *["manifest --verify x --incremental y", "manifest --output x --incremental y z"],
     *["manifest -q set", "manifest --junit x set", "same", "same --csv x", "same -q x", "same --companions x"],
-    *[
-        "list",
-        "list --csv --json x",
-        "compare",
-        "compare x",
-        "compare x y z",
-        "compare --limit x y z",
-        "compare --limit -1 x y",
-        "compare - -",
-        "compare -q --json x y",
-        "check --json --output-format sarif x",
-        "canon x",
-        "show x",
-        "version",
-        "help",
-    ],
-]
+    *["list", "list --csv --json x", "compare", "compare x", "compare x y z", "compare --limit x y z",
+        "compare --limit -1 x y", "compare - -", "compare -q --json x y", "check --output-format sarif x",
+        "canon x", "show x", "version", "help", "explain 13", "parts x", "conformance"],
+]  # fmt: skip
 
 
 def make_set() -> None:
@@ -242,16 +203,10 @@ def test_permission() -> None:
 
 # Names of files, and how lines begin with them.
 ODD = {
-    os.fsdecode(b"\xff\xfe.gr"): os.fsdecode(b"\xff\xfe.gr"),
-    " .gr": " .gr",
-    "-x.gr": "-x.gr",
-    "a b.gr": "a b.gr",
-    "a:7: 9 NotANumber.gr": "a:7: 9 NotANumber.gr",
-    "x\ny.gr": r"\x\ny.gr",
-    "x\r.gr": r"\x\r.gr",
-    r"x\ny.gr": r"\x\\ny.gr",
-    'é<&\x01">.gr': 'é<&\x01">.gr',
-}
+    os.fsdecode(b"\xff\xfe.gr"): os.fsdecode(b"\xff\xfe.gr"), " .gr": " .gr", "-x.gr": "-x.gr", "a b.gr": "a b.gr",
+    "a:7: 9 NotANumber.gr": "a:7: 9 NotANumber.gr", "x\ny.gr": r"\x\ny.gr", "x\r.gr": r"\x\r.gr",
+    r"x\ny.gr": r"\x\\ny.gr", "B.gr": "B.gr", 'é<&\x01">.gr': 'é<&\x01">.gr',
+}  # fmt: skip
 
 
 def test_odd_names() -> None:
@@ -280,7 +235,7 @@ def test_odd_names() -> None:
     assert found == said(same, f"{len(ODD)} the same, 0 different, 0 refused, 0 failed\n", 0), "odd names verified"
     pairs = ["".join(f"{ODD[it]}\n" for it in names[at : at + 2]) for at in range(0, len(names) - 1, 2)]
     found = module("same", "--", *names)
-    assert found == said("\n".join(pairs), count.replace("\n", ", 4 groups\n"), 0), "odd names in groups"
+    assert found == said("\n".join(pairs), count.replace("\n", ", 5 groups\n"), 0), "odd names in groups"
 
 
 @BOTH
@@ -322,82 +277,32 @@ def test_reports() -> None:
         assert (found.err, found.status) == (f"{name}: 33 Write ({reason})\n".encode(), 4), f"a report in {name}"
 
 
-def slowly_squared(number: int) -> int:
-    time.sleep(0.03)
-    return number * number
-
-
-# A process in which two slow tasks start threads, and many quick ones follow. It says how many threads did the slow
-# ones, and how few the quick ones, of which the last ones may be among few.
-QUICK_TASKS = """
-import threading, time
-from dnorm.commands.folders import Workers
-slow, count = 2, 30_000
-def task(at):
-    if at < slow:
-        time.sleep(0.2)
-    return threading.active_count() - 1
-workers = Workers(task, range(count), slow)
-threads = [workers.result(it) for it in range(count)]
-print(max(threads), min(threads[slow:-1000]))
+# Runs dnorm-files with these arguments, in a process that lets so many threads start.
+FEW_THREADS = """
+import sys, threading
+from dnorm.commands.line import main
+start, left = threading.Thread.start, int(sys.argv.pop(1))
+def begin(thread):
+    global left
+    if not left:
+        raise RuntimeError("can't start new thread")
+    left -= 1
+    start(thread)
+threading.Thread.start = begin
+sys.exit(main())
 """
 
 
-def test_quick_tasks() -> None:
-    """Quick tasks are left to one of the threads that slow ones have started: they would wait for each other."""
-    assert run([sys.executable, "-c", QUICK_TASKS], env={**os.environ, **ENVIRONMENT}) == said("2 1\n")
-
-
 def test_few_threads() -> None:
-    """All tasks are done, in their order, where the system lets few threads start or none."""
-    start = threading.Thread.start
-    for most in [0, 1, 3]:
-        begun: list[threading.Thread] = []
-
-        def begin(thread: threading.Thread) -> None:
-            if len(begun) >= most:
-                raise RuntimeError("can't start new thread")
-            begun.append(thread)
-            start(thread)
-
-        setattr(threading.Thread, "start", begin)
-        try:
-            workers = Workers(slowly_squared, range(20), 4)
-            found = [workers.result(it) for it in range(20)]
-        finally:
-            setattr(threading.Thread, "start", start)
-        assert (found, len(begun)) == ([it * it for it in range(20)], most), f"tasks by {most} threads"
+    """All files are checked, in their order, where the system lets few threads start or none, or has little memory."""
     make_set()
+    wanted, own = module("check", "set"), {**os.environ, **ENVIRONMENT}
+    for most in "013":
+        assert run([sys.executable, "-c", FEW_THREADS, most, "check", "-j", "4", "set"], env=own) == wanted, most
     for kilobytes in [50_000, 60_000]:
-        limited = run(
-            ["bash", "-c", f'ulimit -v {kilobytes}; exec "$@"', "bash", *MODULE, "check", "-j", "4", "set"],
-            env={**os.environ, **ENVIRONMENT},
-        )
-        assert b"Traceback" not in limited.err, f"no traceback in {kilobytes} kB: {limited.err!r}"
-
-
-def test_groups() -> None:
-    """Groups of files of one problem."""
-    make_set()
-    write("set/again.max", b"p max 2 0\nn 2 t\nn 1 s\n")
-    write("set/max.max", b"c\np max 2 1\nn 1 s\nn 2 t\na 1 2 0\n")
-    roads = [
-        "set/a-b.gr",
-        "set/a/b/roads.sp",
-        "set/a/x.GR",
-        "set/roads.gr",
-        "set/roads.gr.bz2",
-        "set/roads.gr.gz",
-        "set/roads.gr.xz",
-    ]
-    wanted = [roads, ["set/a/flow.min", "set/flow.min"], ["set/again.max", "set/max.max"]]
-    lines = "\n".join("".join(f"{it}\n" for it in group) for group in wanted)
-    refused = "set/bad.max:end: 19 MissingTerminal\nset/v.co:2: 5 WrongLine\n"
-    assert module("same", "set") == said(
-        lines, f"{refused}13 accepted, 2 refused, 0 failed, 3 groups, 4 other files\n", 2
-    ), "same"
-    assert module("same", "set/s.ss") == said("", "1 accepted, 0 refused, 0 failed\n", 0), "no groups"
-    assert module("same", "missing") == said("", f"{MISSING}0 accepted, 0 refused, 1 failed\n", 4), "no file"
+        command = ["bash", "-c", f'ulimit -v {kilobytes}; exec "$@"', "bash", *MODULE, "check", "-j", "4", "set"]
+        found = run(command, env=own)
+        assert b"Traceback" not in found.err, f"no traceback in {kilobytes} kB: {found.err!r}"
 
 
 def test_many() -> None:
@@ -478,17 +383,41 @@ def test_signals() -> None:
             line = f"0 {done}, 0 refused, 0 failed, 0 of 9 done\n".encode()
             assert (out, err, process.returncode) == (b"", line, -number), f"{words} after {number.name}"
             assert (bytes_of("kept"), hidden(), still_running()) == (b"old", [], []), f"{words} leaves"
-    program = fake("one", "sleep 0.5; cat > /dev/null; echo accepted sp; echo forms 1")
+    program = fake("one", "echo >> begun; sleep 0.5; cat > /dev/null; echo accepted sp; echo forms 1")
     ignoring = started(
         *["check", "--program", program, names[0]],
         stdout=-1,
         stderr=-1,
         preexec_fn=lambda: signal.signal(signal.SIGHUP, signal.SIG_IGN),
     )
-    time.sleep(0.2)
+    while not os.path.exists("begun"):
+        time.sleep(0.01)
     ignoring.send_signal(signal.SIGHUP)
     ignoring.communicate(timeout=LIMIT)
     assert ignoring.returncode == 0, "a signal that is ignored, as by nohup"
+
+
+# A signal comes while the main thread waits for a thread that starts, and has let the lock go.
+IN_A_WAIT = """
+import signal, sys, threading
+from dnorm.commands.line import main
+waited = threading.Condition.wait
+def wait(self, timeout=None):
+    if threading.current_thread() is threading.main_thread():
+        self._release_save()
+        signal.raise_signal(signal.SIGTERM)
+    return waited(self, timeout)
+threading.Condition.wait = wait
+sys.exit(main(sys.argv[1:]))
+"""
+
+
+def test_signal_as_a_thread_starts() -> None:
+    """A signal ends a run also where `threading` makes an error of its own of it."""
+    make({"a.gr": ROADS})
+    words = ["check", "--program", fake("slow", "exec sleep 60"), "a.gr"]
+    ran = run([sys.executable, "-c", IN_A_WAIT, *words], limit=30, env={**os.environ, **ENVIRONMENT})
+    assert ran == Answer(b"", b"0 accepted, 0 refused, 0 failed, 0 of 1 done\n", -signal.SIGTERM)
 
 
 def test_known_so_far() -> None:

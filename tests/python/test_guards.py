@@ -1,5 +1,5 @@
-"""Tests the guards of a collection: `python3 -m dnorm check`, the hook for git at a commit and at a merge, the hook for
-pre-commit, and the workflow for CI services. The collection has 300 instances, and beside them texts with faults, with
+"""Tests the guards of a collection: `python3 -m dnorm check`, the hook for git at a commit and at a merge, and the hook
+for pre-commit. The collection has 300 instances, and beside them texts with faults, with
 names in capitals, behind compressions that are read and others, cut or damaged, pointers of Git LFS, companions that do
 not fit, and links. Each guard refuses each of these files, or counts it among the other files. It names a text of
 another kind than its ending and a companion without a graph that is accepted, and refuses them if it is strict.
@@ -10,22 +10,12 @@ import os
 import re
 import shutil
 
-from collection import (
-    BAD,
-    COUNT,
-    FAULTS,
-    NO,
-    NO_GRAPH,
-    OTHER_KIND,
-    OTHERS,
-    make_collection,
-    make_pipes,
-)
+from collection import BAD, COUNT, FAULTS, NO, NO_GRAPH, OTHER_KIND, OTHERS, make_collection, make_pipes
 from known import ROADS
 from needs import need
-from shared import ROOT, Answer, run, text_of, write
+from shared import ROOT, Answer, run, write
 from test_calls import BOTH, READS
-from test_ci import STEP, WORKFLOW, fields_of_hook
+from test_ci import fields_of_hook
 from test_folders import make, module
 
 pytestmark = READS
@@ -133,7 +123,6 @@ def test_by_git(tested: str) -> None:
     are_named("a commit of the others", lines, remarked(remarks), BESIDES)
     assert status == 0, "its status"
     later_links(repository)
-    by_variable(repository)
     later_pairs(repository)
 
 
@@ -144,12 +133,14 @@ POINTER_HINT = "The file is a pointer of Git LFS, and the text is missing: git l
 
 def later_links(repository: Repository) -> None:
     """Links that lead out of what is committed, to folders, and to git-annex."""
-    make({"below/x.gr": ROADS, "untracked": ROADS, f"{os.getcwd()}-outside": ROADS})
+    outside = f"{os.getcwd()}-outside"
+    make({"below/x.gr": ROADS, "notes/x": b"", "untracked": ROADS, outside: ROADS})
     lost = ".git/annex/objects/AB/cd/SHA256E-s12--0.gr/SHA256E-s12--0.gr"
-    links = {"a.gr": "below/x.gr", "b.gr": "untracked", "c.gr": f"{os.getcwd()}-outside", "d.gr": "below", "e.gr": lost}
+    links = {"a.gr": "below/x.gr", "b.gr": "untracked", "c.gr": os.path.relpath(outside), "d.gr": "below", "e.gr": lost}
+    links["f.gr"] = "notes"
     for name, to in links.items():
         os.symlink(to, name)
-    repository.git("add", "below", *links)
+    repository.git("add", "below", "notes", *links)
     lines, status = repository.lines("commit", "-q", "-m", "links")
     wanted = ["b.gr: 31 Read (No such file or directory)", "e.gr: 31 Read (No such file or directory)"]
     wanted += ["    The file is a pointer of git-annex, and the text is missing: git annex get"]
@@ -164,26 +155,8 @@ def later_links(repository: Repository) -> None:
     repository.git("mv", "coll/good.gr.gz", "coll/better.gr.gz")
     renamed = [*orphans[:2], orphans[2].replace("2 accepted", "3 accepted")]
     assert repository.lines("commit", "-q", "-m", "x") == (renamed, 0), "a graph that is renamed"
-    os.remove(f"{os.getcwd()}-outside")
+    os.remove(outside)
     repository.git("reset", "-q", "--hard", "HEAD~1")
-
-
-def by_variable(repository: Repository) -> None:
-    """The hook runs the program in $DNORM, and says so if there is none."""
-    write("new.gr", BAD)
-    repository.git("add", "new.gr")
-    os.mkdir("a b")
-    shutil.copy("bin/dnorm", "a b/dnorm")
-    refusal = ["new.gr:2: 13 NodeOutOfRange", "    line 2: a 1 3 5", "    NODES 2: nodes count from 1"]
-    refusal.append("0 accepted, 1 refused, 0 failed")
-    missing = ["none: cannot be run (there is no such program, and $DNORM names it)"]
-    rows = {f"{os.getcwd()}/a b/dnorm": refusal, f"env A=b {os.getcwd()}/bin/dnorm": refusal, "none": missing}
-    rows["a b/dnorm"] = refusal
-    for named, lines in rows.items():
-        repository.environment["DNORM"] = named
-        assert repository.lines("commit", "-q", "-m", "x") == (lines, 1), f"$DNORM {named}"
-    repository.environment["DNORM"] = os.path.abspath("bin/dnorm")
-    repository.git("reset", "-q", "--hard")
 
 
 def later_pairs(repository: Repository) -> None:
@@ -251,22 +224,3 @@ def test_by_pre_commit(tested: str) -> None:
     for words, status in rows:
         found = run([f"{ROOT}/{fields['entry']}", *words, *accepted], env=environment)
         assert found.status == status, f"pre-commit {words} of the others"
-
-
-@BOTH
-def test_by_ci(tested: str) -> None:
-    """The step of the workflow that checks the texts: GitHub shows each broken file."""
-    remarks, faults = make_collection(), {**FAULTS, **make_pipes()}
-    steps = STEP.findall(text_of(WORKFLOW))
-    environment = {**os.environ, "DNORM": os.path.abspath(tested), "RUNNER_TEMP": os.getcwd()}
-    environment["PATH"] = f"{ROOT}:{os.environ['PATH']}"
-    found = run(["bash", "-e", "-c", steps[1]], env=environment)
-    annotation = r"^::(?:error|warning) file=(.*?)(?:,line=\d+)?(?:,title=.*?)?::\./(.*?)(?:%0A.*)?$"
-    lines = re.findall(annotation, found.out.decode(), re.M)
-    told = {**faults, **remarked(remarks)}
-    are_named("CI", [line for _, line in lines], told)
-    files = [it.replace("%3A", ":").replace("%2C", ",") for it, _ in lines]
-    assert sorted(files) == sorted(told), "annotated files"
-    assert found.out.count(b"::warning ") == len(remarked(remarks)), "warnings"
-    assert found.status == 4, "its status"
-    assert f", {len(OTHERS)} other files\n".encode() in found.err, "other files are counted"

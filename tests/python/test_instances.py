@@ -102,6 +102,7 @@ def flows(supplies: Any) -> Any:
     return dnorm.from_arrays("min", nodes=2, tails=[1], heads=[2], caps=[3], costs=[4], supplies=supplies)
 
 
+NO_INTEGER = "object cannot be interpreted as an integer"
 OF_KINDS = "kind is one of dnorm.Sp, dnorm.Max, dnorm.Min, dnorm.Ss, dnorm.P2p, dnorm.Co, or its name"
 
 
@@ -112,7 +113,7 @@ def test_notebooks() -> None:
     assert isinstance(flow, dnorm.Min)
     rows: list[tuple[Callable[[dnorm.File], object], dnorm.Instance, bytes]] = [
         (dnorm.check, roads, ROADS_CANON), (dnorm.checksum, roads, ROADS_CANON), (dnorm.canon, flow, FLOW),
-        (lambda it: dnorm.compare(it, ROADS), roads, ROADS_CANON), (dnorm.read, flow, FLOW), (dnorm.show, flow, FLOW),
+        (lambda it: dnorm.compare(it, ROADS), roads, ROADS_CANON), (dnorm.read, flow, FLOW),
         (lambda it: dnorm.differences(ROADS, it), roads, ROADS_CANON),
         (lambda it: dnorm.differences(it, it, 1).both, flow, FLOW),
     ]  # fmt: skip
@@ -212,41 +213,43 @@ def test_numpy() -> None:
 
 @ALL
 def test_checked_numbers() -> None:
-    """Which numbers beside columns, kinds and arguments are refused."""
+    """Which numbers, kinds and arguments are refused."""
     given = arrays({})
     # Their types take none of these.
     graph_of: Any = dnorm.Sp
     write_it: Any = dnorm.write
     ones = (given.tails, given.tails, given.tails)
+    other = "and not a list: from_arrays takes other numbers, too"
+    listed: Any = [1]
     rows: list[tuple[Callable[[], object], str]] = [
-        (lambda: arrays({"nodes": 3.0}), "TypeError: nodes: 'float' object cannot be interpreted as an integer"),
-        (
-            lambda: arrays({"nodes": "3 1\na 1 1 9\nc"}),
-            "TypeError: nodes: 'str' object cannot be interpreted as an integer",
-        ),
-        (lambda: arrays({"nodes": None}), "TypeError: nodes: 'NoneType' object cannot be interpreted as an integer"),
+        (lambda: arrays({"nodes": 3.0}), f"TypeError: nodes: 'float' {NO_INTEGER}"),
+        (lambda: arrays({"nodes": "3 1\na 1 1 9\nc"}), f"TypeError: nodes: 'str' {NO_INTEGER}"),
+        (lambda: arrays({"nodes": None}), f"TypeError: nodes: 'NoneType' {NO_INTEGER}"),
         (lambda: arrays({"nodes": -1}), "ValueError: nodes is -1"),
-        (lambda: ends({"source": 1.5}), "TypeError: source: 'float' object cannot be interpreted as an integer"),
+        (lambda: ends({"source": 1.5}), f"TypeError: source: 'float' {NO_INTEGER}"),
         (lambda: ends({"source": 0}), "ValueError: source is 0, which is no node of 1 to 2: nodes count from 1"),
         (lambda: ends({"sink": 3}), "ValueError: sink is 3, which is no node of 1 to 2: nodes count from 1"),
-        (lambda: flows({1: 4.7}), "TypeError: supplies[1]: 'float' object cannot be interpreted as an integer"),
-        (
-            lambda: flows({"1 s": 4}),
-            "TypeError: node '1 s' of supplies: 'str' object cannot be interpreted as an integer",
-        ),
+        (lambda: flows({1: 4.7}), f"TypeError: supplies[1]: 'float' {NO_INTEGER}"),
+        (lambda: flows({"1 s": 4}), f"TypeError: node '1 s' of supplies: 'str' {NO_INTEGER}"),
         (lambda: flows({0: 5}), "ValueError: supplies has node 0, which is none of 1 to 2: nodes count from 1"),
         (lambda: flows({3: 5}), "ValueError: supplies has node 3, which is none of 1 to 2: nodes count from 1"),
         (lambda: flows([5]), "ValueError: supplies has 1 numbers, and there are 2 nodes"),
-        (lambda: flows([5, "x"]), "TypeError: supplies[1]: 'str' object cannot be interpreted as an integer"),
+        (lambda: flows([5, "x"]), f"TypeError: supplies[1]: 'str' {NO_INTEGER}"),
         (lambda: dnorm.from_arrays("spp", nodes=2), f"TypeError: {OF_KINDS}"),  # type: ignore[call-overload]
         (lambda: dnorm.from_arrays(dict, nodes=2), f"TypeError: {OF_KINDS}"),  # type: ignore[type-var]
         (lambda: dnorm.from_arrays(dnorm.Graph, nodes=2), f"TypeError: {OF_KINDS}"),
-        (lambda: graph_of(2.5, *ones), "TypeError: nodes: 'float' object cannot be interpreted as an integer"),
+        (lambda: graph_of(2.5, *ones), f"TypeError: nodes: 'float' {NO_INTEGER}"),
         (
             lambda: dnorm.Min(2, ones[0], ones[0], {0: 5}, *ones).supply_column(),
             "ValueError: supplies has node 0, which is none of 1 to 2: nodes count from 1",
         ),
         (lambda: write_it("a.gr", given), "TypeError: write takes an instance, and then a target, and not str"),
+        (lambda: dnorm.Sp(2, listed, listed, listed), f"TypeError: tails is an array of 64 signed bits, {other}"),
+        (lambda: arrays({"lengths": [1.5]}), f"TypeError: lengths[0]: 'float' {NO_INTEGER}"),
+        (lambda: arrays({"lengths": ["3"]}), f"TypeError: lengths[0]: 'str' {NO_INTEGER}"),
+        (lambda: arrays({"lengths": [[3]]}), f"TypeError: lengths[0]: 'list' {NO_INTEGER}"),
+        (lambda: arrays({"lengths": [3, 4]}), "ValueError: tails and lengths have 1 and 2 numbers"),
+        (lambda: arrays({"heads": []}), "ValueError: tails and heads have 1 and 0 numbers"),
     ]
     for call, wanted in rows:
         assert told(call) == wanted, wanted
@@ -258,24 +261,6 @@ def test_constructors() -> None:
     given = arrays({})
     for lengths in [(3,), iter([3]), range(3, 4), given.lengths, [True + 2], given.lengths[:1]]:
         assert arrays({"lengths": lengths}) == given, f"lengths {lengths!r}"
-    other = "and not a list: from_arrays takes other numbers, too"
-    listed: Any = [1]
-    rows: list[tuple[Callable[[], object], str]] = [
-        (lambda: dnorm.Sp(2, listed, listed, listed), f"TypeError: tails is an array of 64 signed bits, {other}"),
-        (
-            lambda: arrays({"lengths": [1.5]}),
-            "TypeError: lengths[0]: 'float' object cannot be interpreted as an integer",
-        ),
-        (lambda: arrays({"lengths": ["3"]}), "TypeError: lengths[0]: 'str' object cannot be interpreted as an integer"),
-        (
-            lambda: arrays({"lengths": [[3]]}),
-            "TypeError: lengths[0]: 'list' object cannot be interpreted as an integer",
-        ),
-        (lambda: arrays({"lengths": [3, 4]}), "ValueError: tails and lengths have 1 and 2 numbers"),
-        (lambda: arrays({"heads": []}), "ValueError: tails and heads have 1 and 0 numbers"),
-    ]
-    for call, wanted in rows:
-        assert told(call) == wanted, wanted
     wide: list[tuple[dict[str, Any], str]] = [({"lengths": [7, it]}, "lengths[1]: ") for it in (MOST + 1, -MOST - 2)]
     for attributes, begin in [*wide, ({"nodes": MOST + 1}, f"nodes is {MOST + 1}, which does not fit into 64 signed")]:
         try:

@@ -10,7 +10,6 @@ import os
 import random
 import shutil
 import signal
-import sys
 import threading
 import types
 from collections import Counter
@@ -21,9 +20,8 @@ import pytest
 from collection import GRAPH, POINTER, SOURCES
 from known import CANONICAL, ROADS
 from needs import leave_out
-from reading import COUNTED
 from shared import LIMIT, ROOT, run, said, write
-from test_calls import COLUMNS, FORMS, PACKAGE, READS, fake, told
+from test_calls import COLUMNS, READS, fake, python, told
 from test_folders import ENVIRONMENT, MODULE, make
 from texts import lines_of, made, spelled
 
@@ -33,7 +31,7 @@ import dnorm.limits
 from dnorm.program import children
 
 pytestmark = [*READS, pytest.mark.parametrize("reader", ["library"], indirect=True)]
-LIBRARY = f"{ROOT}/c/out/lib/libdnorm.so.2"
+LIBRARY = f"{ROOT}/c/out/lib/libdnorm.so.3"
 SEED, ROUNDS = 77, 100
 # A process that thinks it is on another machine, and says where the library may be.
 ELSEWHERE = """
@@ -44,9 +42,8 @@ print(*dnorm.library.places_beside("/usr/bin/dnorm"))
 """
 # Other files of the name of the library: what each is made of, by a C compiler or as it is, and why it is none.
 OTHERS = {
-    "another": ("unsigned dnorm_abi(void) { return 1; }", "its interface has the number 1, and not 2"),
-    "half": ("unsigned dnorm_abi(void) { return 2; }", "undefined symbol: dnorm_begin"),
-    "foreign": ("int other(void) { return 1; }", "undefined symbol: dnorm_abi"),
+    "half": ("void dnorm_begin(void) {}", "undefined symbol: dnorm_feed"),
+    "foreign": ("int other(void) { return 1; }", "undefined symbol: dnorm_begin"),
     "text": (None, "file too short"),
 }
 # A process that reads texts until there is too little memory, with more of it each time.
@@ -75,13 +72,6 @@ for _ in range(2):
     peaks.append(resource.getrusage(resource.RUSAGE_SELF).ru_maxrss)
 print(peaks[1] - peaks[0])
 """
-
-
-def python(script: str, **own: str) -> str:
-    """Returns what a script prints, by a process of its own."""
-    environment = {**os.environ, "PYTHONPATH": PACKAGE, "PYTHONDONTWRITEBYTECODE": "1", **own}
-    ran = run([sys.executable, "-c", script], env=environment)
-    return ran.out.decode().strip() if ran.status == 0 else f"status {ran.status}: {ran.err.decode()[-300:]}"
 
 
 def with_environment(call: Callable[[], object], **own: str | None) -> str:
@@ -114,7 +104,7 @@ def test_places(tested: str) -> None:
         program = os.path.abspath(f"{folder}/dnorm")
         os.makedirs(f"links/{folder}")
         os.symlink(program, f"links/{folder}/dnorm")
-        wanted = f"{os.path.abspath(place)}/libdnorm.so.2\n" if place else "None\n"
+        wanted = f"{os.path.abspath(place)}/libdnorm.so.3\n" if place else "None\n"
         for it in [program, os.path.abspath(f"links/{folder}/dnorm")]:
             found = with_environment(lambda: dnorm.find_library(it), DNORM_LIBRARY=None)
             assert found == wanted, f"the library of {it}"
@@ -126,8 +116,8 @@ def test_places(tested: str) -> None:
         assert found == "None\n", f"the library of a command with {program}"
         found = with_environment(lambda: dnorm.find_library(program), DNORM_LIBRARY=LIBRARY)
         assert found == wanted, f"the library of the argument {program}"
-    places = [f"/usr/{it}/libdnorm.so.2" for it in ("lib", "lib/aarch64-linux-gnu", "bin/lib")]
-    assert python(ELSEWHERE).split() == places, "places on aarch64"
+    places = [f"/usr/{it}/libdnorm.so.3" for it in ("lib", "lib/aarch64-linux-gnu", "bin/lib")]
+    assert python(ELSEWHERE).out.decode().split() == places, "places on aarch64"
     found = with_environment(dnorm.find_library, DNORM="/none", DNORM_LIBRARY=LIBRARY)
     assert found == f"{LIBRARY}\n", "a library without a program"
     found = with_environment(lambda: next(dnorm.read(ROADS).rows()), DNORM="/none", DNORM_LIBRARY=LIBRARY)
@@ -144,7 +134,7 @@ def test_others(tested: str) -> None:
         os.makedirs(f"{name}/bin")
         os.makedirs(f"{name}/lib")
         shutil.copy(tested, f"{name}/bin/dnorm")
-        program, path = os.path.abspath(f"{name}/bin/dnorm"), os.path.abspath(f"{name}/lib/libdnorm.so.2")
+        program, path = os.path.abspath(f"{name}/bin/dnorm"), os.path.abspath(f"{name}/lib/libdnorm.so.3")
         write(f"{name}/it.c", source or "")
         if source:
             assert run(["cc", "-shared", "-fPIC", "-o", path, f"{name}/it.c"]) == said(), f"cc {name}"
@@ -164,35 +154,13 @@ def test_others(tested: str) -> None:
     assert found == "TimedOut: -: took more than 0.3 seconds", "an argument is stronger"
 
 
-def test_same_instances() -> None:
-    """Both give equal instances, of all known and of random texts."""
-    chance = random.Random(SEED)
-    texts = [text for text, *_ in CANONICAL]
-    texts += [spelled(chance, lines_of(chance, made(chance, chance.choice([*COLUMNS])))) for _ in range(ROUNDS)]
-    count = 200_000
-    arcs = b"".join(b"a %d 1 1 3 -%d\n" % (it, it) for it in range(1, count + 1))
-    texts.append(b"p min %d %d\n" % (count, count) + arcs)
-    for text in texts:
-        for form in FORMS:
-            found: list[object] = []
-            for library in ["none", LIBRARY]:
-                os.environ["DNORM_LIBRARY"] = library
-                try:
-                    found.append(dnorm.read(text, form))
-                except dnorm.Refused as error:
-                    found.append(str(error))
-            assert found[0] == found[1], f"both read {text!r:.200} alike in form {form}"
-    os.environ["DNORM_LIBRARY"] = LIBRARY
-    kinds = {dnorm.read(text).kind for text, *_ in CANONICAL}
-    assert kinds == set(COUNTED), "kinds that were read"
-
-
 def test_same_checks() -> None:
     """That `check --json` prints the same by both, also of compressed texts, with the forms in which a text is
     canonical; and that by the library the program checks none of them."""
     chance = random.Random(SEED)
     texts = [text for row in CANONICAL for text in row]
     texts += [spelled(chance, lines_of(chance, made(chance, chance.choice([*COLUMNS])))) for _ in range(ROUNDS)]
+    texts.append(b"p sp 20000 20000\n" + b"".join(b"a %d 1 7\n" % it for it in range(1, 20_001)))
     texts += [b"", b"p", b"c\n" + ROADS, GRAPH + b"c\n", GRAPH[:-1], b" " + GRAPH, POINTER]
     make({f"set/{at:03}.gr": text for at, text in enumerate(texts)} | {"set/x.ss": SOURCES, "set/x.gr": GRAPH})
     make({f"set/{at:03}.min.gz": gzip.compress(text) for at, (_, text, _) in enumerate(CANONICAL)})
@@ -225,9 +193,7 @@ def test_in_rooms() -> None:
             clock_looks = itertools.count()
             names["time"] = types.SimpleNamespace(monotonic=clock_looks.__next__)
             dnorm.read(text, timeout=9999)
-            # Items are copied in four rooms at most.
-            size = max(room, count // 4 + 1) if whole.kind == "co" else room
-            looks.add(next(clock_looks) - -(-count // size))
+            looks.add(next(clock_looks) - -(-count // room))
             names["time"] = clock
         assert len(looks) == 1, f"looks at the clock beside one a room, {whole.kind}"
     dnorm.library.ROOM = kept
@@ -243,11 +209,11 @@ def test_in_threads() -> None:
     assert found == wanted, "reads from eight threads"
     count = 100_000
     write("large.gr", f"p sp {count} {count}\n" + "".join(f"a {it} 1 1\n" for it in range(1, count + 1)))
-    found_little = set(python(LITTLE).split())
+    found_little = {*python(LITTLE).out.decode().split()}
     is_known = {str(count), "Memory"} <= found_little <= {str(count), "Memory", "MemoryError"}
     assert is_known, f"little memory: {found_little}"
-    more = python(MANY)
-    assert int(more) < 2000, f"forty reads take {more} kB more than twenty"
+    more = int(python(MANY).out)
+    assert more < 2000, f"forty reads take {more} kB more than twenty"
     vars(children)["_is_stopped"] = True
     assert told(lambda: dnorm.read(ROADS)).endswith("(all runs were stopped)"), "a read that is stopped"
     vars(children)["_is_stopped"] = False
@@ -256,9 +222,9 @@ def test_in_threads() -> None:
     dnorm.library.ENDLESS = kept
 
 
-def test_at_once() -> None:
-    """Two calls at the same time, of which either may fail, also where no thread starts; and which refusal is
-    told of two files that are read so."""
+def test_at_once(monkeypatch: pytest.MonkeyPatch) -> None:
+    """Two calls at the same time, of which either may fail, also where no thread starts; and which refusal is told of
+    two files that are read so."""
     os.environ["DNORM_LIBRARY"] = LIBRARY
     wanted = threading.Event()
 
@@ -274,43 +240,30 @@ def test_at_once() -> None:
     def not_started(_: threading.Thread) -> None:
         raise RuntimeError("can't start new thread")
 
-    kept = threading.Thread.start
-    for start in [kept, not_started]:
-        setattr(threading.Thread, "start", start)
-        assert both(lambda: 1, lambda: 2) == "(1, 2)\n", "two calls"
-        assert both(lambda: 1, fail) == "ValueError: it fails", "the second one fails"
-        assert wanted.is_set() is False, "is the other one asked to end"
-        assert both(fail, wait) == "ValueError: it fails", "the first one fails"
-        assert wanted.is_set() == (start == kept), "is the other one asked to end now"
-        setattr(threading.Thread, "start", kept)
-        wanted.clear()
+    assert both(fail, wait) == "ValueError: it fails", "the first one fails, and the other one is asked to end"
+    wanted.clear()
     # A signal comes while the first call has ended, and the second one has not. The handler of the tests would end this
     # process.
     handler = signal.signal(signal.SIGINT, signal.default_int_handler)
     main = threading.main_thread().ident
     assert main
-    timer = threading.Timer(0.3, signal.pthread_kill, [main, signal.SIGINT])
-    timer.start()
-    try:
+    threading.Timer(0.3, signal.pthread_kill, [main, signal.SIGINT]).start()
+    with pytest.raises(KeyboardInterrupt):
         both(lambda: 1, wait)
-        is_interrupted = False
-    except KeyboardInterrupt:
-        is_interrupted = True
-    finally:
-        signal.signal(signal.SIGINT, handler)
-    assert (is_interrupted, wanted.is_set()) == (True, True), "a signal, and is the other one asked to end"
-    wanted.clear()
-    files = {"good.gr": ROADS, "bad.gr": b"p sp 2 1\na 1 3 5\n", "worse.gr": b"x\n"}
-    for name, text in files.items():
+    signal.signal(signal.SIGINT, handler)
+    assert wanted.is_set(), "the other one is asked to end"
+    for start in [threading.Thread.start, not_started]:
+        with monkeypatch.context() as patched:
+            patched.setattr(threading.Thread, "start", start)
+            assert both(lambda: 1, lambda: 2) == "(1, 2)\n", "two calls"
+            assert both(lambda: 1, fail) == "ValueError: it fails", "the second one fails"
+    for name, text in {"good.gr": ROADS, "bad.gr": b"p sp 2 1\na 1 3 5\n", "worse.gr": b"x\n"}.items():
         write(name, text)
-    said = {
-        "good.gr": "same\n",
-        "bad.gr": "Refused: bad.gr:2: 13 NodeOutOfRange",
-        "worse.gr": "Refused: worse.gr:1: 1 BadLine",
-    }
-    names = [*files, "none.gr"]
-    for left, right in itertools.product(names, names):
-        first = said.get(left if left != "good.gr" else right, "Read: none.gr: 31 Read (No such file or directory)")
+    told_of = {"good.gr": "same\n", "bad.gr": "Refused: bad.gr:2: 13 NodeOutOfRange"}
+    told_of |= {"worse.gr": "Refused: worse.gr:1: 1 BadLine"}
+    told_of |= {"none.gr": "Read: none.gr: 31 Read (No such file or directory)"}
+    for left, right in itertools.product(told_of, told_of):
+        first = told_of[left if left != "good.gr" else right]
         assert told(functools.partial(first_of, left, right)) == first, f"{left} and {right}"
 
 

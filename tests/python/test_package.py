@@ -25,7 +25,7 @@ SOME_CALLS = """
 import dnorm, io, pathlib
 text = pathlib.Path("examples/flow.min").read_bytes()
 print(dnorm.check("examples/roads.gr", "examples/sources.ss"), dnorm.checksum(io.BytesIO(text)))
-print(dnorm.compare(text, "examples/flow-cheaper.min"), dnorm.show(text).pairs, dnorm.read(text, 2).costs[0])
+print(dnorm.compare(text, "examples/flow-cheaper.min"), dnorm.read(text, 2).costs[0])
 try:
     dnorm.canon_to("examples/refused/17-SumTooLarge.max", "none")
 except dnorm.Refused as error:
@@ -33,7 +33,7 @@ except dnorm.Refused as error:
 """
 SOME_ANSWERS = """\
 Checked(kind='sp', fits='ss', forms=()) 431fd9d3cad523055ba5c48c5b077b8082c33c818c1bfafb875379504e475092
-differ pair 1 2 amount 5 cost 4 3 (CostPair(tail=1, head=2, forced=2, cost=3, steps=3),) 0
+differ pair 1 2 amount 5 cost 4 3 0
 examples/refused/17-SumTooLarge.max:6: 17 SumTooLarge
 """
 # Evaluates the hints of all public names, and of the methods that the package gives them. Those of an error are none of
@@ -51,7 +51,6 @@ print("evaluated")
 
 
 def test_same_as_program(tested: str) -> None:
-    assert run([sys.executable, f"{ROOT}/tools/refusals", tested]) == said()
     version = run([tested, "--version"]).out.decode().split()[1]
     assert dnorm.__version__ == version.replace("-dev", ".dev0")
 

@@ -8,7 +8,6 @@ import io
 import json
 import os
 import pickle
-import random
 import re
 import signal
 import sys
@@ -22,78 +21,44 @@ import pytest
 from collection import zstd
 from known import COSTS, FLOWS, ROADS, ROADS_CANON
 from needs import leave_out
-from reading import Text as Known
-from reading import Fault, canonical, read
 from shared import ROOT, bytes_of, python_with, run, said, write
 from test_calls import ALL, BOTH, COMPRESS, READS, fake, told
 from test_folders import ENVIRONMENT, make, module, on_terminal
-from texts import lines_of, made, spelled
 
 import dnorm
 import dnorm.reader
 from dnorm.files import Text
-from dnorm.library import Status, instance_of
+from dnorm.library import Status, held
 from dnorm.limits import Limit
 
 pytestmark = READS
-SEED, ROUNDS = 21, 60
 INFINITE = float("inf")
-# Refused texts, with the line and the hint of the refusal. A file is "t.gr".
+# Refused texts, with the line and the hint of the refusal; others are in tests/program/test_explain.py. A file is
+# "t.gr".
 MANY = b"p max 3 3\nn 1 s\nn 3 t\na 1 2 9223372036854775800\na 1 3 1\na 1 2 8\n"
 NUL_WITHIN = "The line has NUL within, where data may be lost: get the file again"
 CAUSES: list[tuple[bytes, str | None, str | None]] = [
-    (b"p sp 2 1\na 1 3 7\n", "a 1 3 7", "NODES 2: nodes count from 1"),
     (b"p aux sp ss 1\ns 0\n", "s 0", None),
     (b"p sp 2 1\na 1 2 7.0\n", "a 1 2 7.0", "Scale to whole numbers; remove a fraction that is 0"),
     (b"c\n", None, "The text has only comments, or the command that wrote it failed"),
-    (b"p sp 2 2\na 1 2 7\n", None, "declared 2, found 1: only a, s, q and v lines count"),
     (b"p sp 2 1\na 1 2 7\r\n\ta\t1 1 1\r\n", "^Ia^I1 1 1^M", "declared 1, found 2: only a, s, q and v lines count"),
     (b"p min 3 0\nc\nn 2 1\nn +02 5\n", "n +02 5", "Node +02 came first in line 3"),
     (b"p max 3 0\nn 2 t\nn 1 t\n", "n 1 t", "The sink is node 2, by line 2"),
     (b"p max 3 0\nn 2 s\nn 1 t\nn 3 s\n", "n 3 s", "The source is node 2, by line 2"),
     (b"p aux sp co 2\nv 7 0 0\nv 7 1 1\n", "v 7 1 1", "Point 7 came first in line 2"),
-    (
-        MANY,
-        "a 1 2 8",
-        "The capacities from 1 to 2 sum to 9223372036854775800 before this line, and with it to " "9223372036854775808",
-    ),
-    (
-        b"p min 2 2\na 1 2 0 9223372036854775807 0\na 1 2 1 1 0\n",
-        "a 1 2 1 1 0",
-        "The capacities from 1 to 2 sum to 9223372036854775807 before this line, and with it to 9223372036854775808",
-    ),
-    (b"", None, "The file is empty"),
+    (MANY, "a 1 2 8", "The capacities from 1 to 2 sum to 9223372036854775800 before this line, and with it to "
+        "9223372036854775808"),
+    (b"p min 2 2\na 1 2 0 9223372036854775807 0\na 1 2 1 1 0\n", "a 1 2 1 1 0",
+        "The capacities from 1 to 2 sum to 9223372036854775807 before this line, and with it to 9223372036854775808"),
     (b"p sp 0 0\nx" + b"\xe9" * 300, "x" + "M-i" * 199, None),
-    (b"p sp 0 0\n\x1a", "^Z", "The line ends in NUL or Ctrl-Z: tr -d '\\0\\032' < {} | dnorm check -"),
     (b"p sp 2 1\na 1 2" + bytes(200) + b"7 9\n", "a 1 2" + "^@" * 195, NUL_WITHIN),
     (b"p sp 2 1\na 1 2 3\0 ", "a 1 2 3^@ ", NUL_WITHIN),
     (b"p sp 2 1\na 1 2 3" + bytes(9000), "a 1 2 3" + "^@" * 193, NUL_WITHIN),
-    (
-        b"p sp 2 1\na 1 2 3" + bytes(900),
-        "a 1 2 3" + "^@" * 193,
-        "The line ends in NUL or Ctrl-Z: tr -d '\\0\\032' < {} | dnorm check -",
-    ),
-    (
-        "p sp 0 0\n".encode("utf-32"),
-        "M-^?M-~^@^@" + "".join(f"{it}^@^@^@" for it in "p sp 0 0"),
-        "The file is in UTF-32: iconv -f UTF-32 -t UTF-8 < {} | dnorm check -",
-    ),
-    (
-        "p sp 0 0\n".encode("utf-16"),
-        "M-^?M-~" + "".join(f"{it}^@" for it in "p sp 0 0"),
-        "The file is in UTF-16: iconv -f UTF-16 -t UTF-8 < {} | dnorm check -",
-    ),
-    (
-        b"\xef\xbb\xbfp sp 0 0\n",
-        "M-oM-;M-?p sp 0 0",
-        "The file begins with a byte order mark: tail -c +4 < {} | " "dnorm check -",
-    ),
-    (
-        b"version https://git-lfs.github.com/spec/v1\n",
-        "version https://git-lfs.github.com/spec/v1",
-        "The file is a pointer of Git LFS, and the text is missing: git lfs pull",
-    ),
-]
+    (b"p sp 2 1\na 1 2 3" + bytes(900), "a 1 2 3" + "^@" * 193,
+        "The line ends in NUL or Ctrl-Z: tr -d '\\0\\032' < {} | dnorm check -"),
+    ("p sp 0 0\n".encode("utf-32"), "M-^?M-~^@^@" + "".join(f"{it}^@^@^@" for it in "p sp 0 0"),
+        "The file is in UTF-32: iconv -f UTF-32 -t UTF-8 < {} | dnorm check -"),
+]  # fmt: skip
 
 
 def test_causes() -> None:
@@ -144,18 +109,19 @@ def test_causes() -> None:
 # Files that are not what their names say, with the hint that they have.
 PACKED: dict[str, tuple[bytes, str]] = {
     "plain.gr.gz": (ROADS, "The file is not compressed: dnorm check - < plain.gr.gz"),
-    "lfs.gr.gz": (
-        b"version https://git-lfs.github.com/spec/v1\noid sha256:0\n",
-        "The file is a pointer of Git LFS, and the text is missing: git lfs pull",
-    ),
+    "lfs.gr.gz": (b"version https://git-lfs.github.com/spec/v1\noid sha256:0\n",
+                  "The file is a pointer of Git LFS, and the text is missing: git lfs pull"),
     "cut.gr.bz2": (COMPRESS[".bz2"](ROADS)[:-5], "The file is cut or damaged: get it again"),
-    "zip.gr.xz": (
-        b"PK\x03\x04..",
-        "The file is a zip archive, and its name says another thing: unzip -p zip.gr.xz | " "dnorm check -",
-    ),
+    "zip.gr.xz": (b"PK\x03\x04..", "The file is a zip archive, and its name says another thing: unzip -p zip.gr.xz | "
+                  "dnorm check -"),
     "empty.gr.gz": (b"", "The file is empty"),
     "noise.gr.gz": (b"\x80\x81", "The file is not compressed as its name says"),
-}
+}  # fmt: skip
+
+
+def records_of(*words: str) -> list[dict[str, Any]]:
+    """Returns the JSON objects that a command prints."""
+    return [json.loads(it) for it in module(*words).out.splitlines()]
 
 
 def test_hints_of_failures() -> None:
@@ -166,8 +132,9 @@ def test_hints_of_failures() -> None:
     found = module("check", *names)
     told_ = [it.strip() for it in found.err.decode().splitlines() if it.startswith("    ")]
     assert told_ == [PACKED[it][1] for it in names], "hints as text"
-    records = [json.loads(it) for it in module("check", "--json", *names).out.splitlines()]
-    assert [it["hint"] for it in records] == [PACKED[it][1] for it in names], "hints in JSON"
+    assert [it["hint"] for it in records_of("check", "--json", *names)] == [
+        PACKED[it][1] for it in names
+    ], "hints in JSON"
     lines = module("check", "--output-format", "github", *names).out.decode().splitlines()
     assert [it.partition("%0A")[2] for it in lines] == [PACKED[it][1] for it in names], "hints for GitHub"
     module("check", "--junit", "report", *names)
@@ -190,30 +157,7 @@ def test_hints_of_failures() -> None:
     assert wanted.encode() in found.out, f"dnorm-explain of 36: {found.out!r}"
 
 
-def test_documents() -> None:
-    """The document of SARIF, and CSV with an odd name."""
-    make({"s/a b.gr": ROADS, "s/bad.gr": b"p sp 2 1\na 1 3 7\n", "s/end.gr": b"c\n", "s/k.max": ROADS})
-    found = module("check", "--output-format", "sarif", "s", "none.gr")
-    assert (found.err, found.status) == (
-        b"2 accepted, 2 refused, 1 failed, 1 file of another kind than its ending\n",
-        4,
-    ), "the end of a SARIF run"
-    document = json.loads(found.out)
-    results = document["runs"][0]["results"]
-    assert (document["version"], len(document["runs"])) == ("2.1.0", 1), "the version"
-    places = [it["locations"][0]["physicalLocation"] for it in results]
-    assert [(it["artifactLocation"]["uri"], it.get("region")) for it in places] == [
-        ("none.gr", None),
-        ("s/bad.gr", {"startLine": 2}),
-        ("s/end.gr", None),
-        ("s/k.max", None),
-    ], "places"
-    assert [it["level"] for it in results] == ["error", "error", "error", "warning"], "levels"
-    assert [it.get("ruleId") for it in results] == [None, "NodeOutOfRange", "NoProblem", None], "rules"
-    rules = {it["id"] for it in document["runs"][0]["tool"]["driver"]["rules"]}
-    assert {"NodeOutOfRange", "NoProblem"} <= rules, "the rules are described"
-    told_ = "A node is not in 1 to NODES; in a companion, below 1. line 2: a 1 3 7 NODES 2: nodes count from 1"
-    assert results[1]["message"]["text"] == told_, "a message"
+def test_odd_names_in_csv() -> None:
     odd = ["c\r.gr", "d\n.gr", 'e",.gr']
     for it in odd:
         write(it, ROADS)
@@ -241,13 +185,8 @@ def test_compressions() -> None:
             assert (found_.err, found_.status) == (f"{name}: 33 Write ({reason})\n".encode(), 4), f"--output {name}"
         assert bytes_of(f"t{end}") == ROADS, f"t{end} is kept"
     assert sorted(os.listdir(".")) == sorted([*(f"t{it}" for it in unknown), "t.GZ", "t.BZ2", "t.XZ"]), "no other file"
-    for name, what in {
-        "t.gr.new": ".new",
-        "t.MIN.txt": ".txt",
-        "t.gr.gz.gz": ".gz.gz",
-        "t.gr.": ".",
-        "t.grz": ".grz",
-    }.items():
+    others = {"t.gr.new": ".new", "t.MIN.txt": ".txt", "t.gr.gz.gz": ".gz.gz", "t.gr.": ".", "t.grz": ".grz"}
+    for name, what in others.items():
         found = told(lambda: dnorm.canon_to(ROADS, name))
         assert found == f"Write: {name}: 33 Write ({what} is not supported)", f"canon_to {name}"
         assert not os.path.exists(name), f"no {name}"
@@ -381,7 +320,7 @@ def test_time_limits() -> None:
     rows: list[tuple[str, Callable[[], object], str]] = [
         ("a slow program", lambda: dnorm.check("t.gr", program=slow, timeout=0.3), "t.gr"),
         ("a slow program and bytes", lambda: dnorm.canon(b"c" * 10**6, program=slow, timeout=0.3), "-"),
-        ("a FIFO", lambda: dnorm.show("pipe.gr", timeout=0.3), "pipe.gr"),
+        ("a FIFO", lambda: dnorm.canon("pipe.gr", timeout=0.3), "pipe.gr"),
         ("a compressed FIFO", lambda: dnorm.checksum("pipe.gr.gz", timeout=0.3), "pipe.gr.gz"),
         ("a second FIFO", lambda: dnorm.compare("t.gr", "pipe.gr", timeout=0.3), "t.gr"),
         ("no time", lambda: dnorm.read("t.gr", timeout=0), "t.gr"),
@@ -426,7 +365,7 @@ class SlowLibrary:
         self.freed = 0
         self.begin = self.feed = lambda *_: Status()
 
-    def finish(self, _: object) -> Status:
+    def finish(self, _: object) -> Any:
         time.sleep(1)
         return Status()
 
@@ -440,7 +379,7 @@ def test_long_steps() -> None:
     start = time.monotonic()
     with contextlib.ExitStack() as stack:
         text = Text(ROADS, stack, Limit(0.2, "-"))
-        found = told(lambda: stack.enter_context(instance_of(library, text, 1)))
+        found = told(lambda: stack.enter_context(held(library, text)))
     took = time.monotonic() - start
     assert (found, library.freed) == ("TimedOut: -: took more than 0.2 seconds", 0), "a long step"
     assert took < 0.6, f"it takes {took} s"
@@ -454,38 +393,29 @@ def test_long_steps() -> None:
 
 # Limits that no call takes.
 NO_LIMITS: list[Any] = [-1, INFINITE, -INFINITE, float("nan"), 1e300, 10**400, 10**9 + 1, "5", b"5", [5]]
+TIMED: list[Callable[[Any], object]] = [
+    lambda it: dnorm.check(ROADS, timeout=it), lambda it: dnorm.canon(ROADS, timeout=it),
+    lambda it: dnorm.canon_to(ROADS, io.BytesIO(), timeout=it), lambda it: dnorm.checksum(ROADS, timeout=it),
+    lambda it: dnorm.compare(ROADS, FLOWS, timeout=it), lambda it: dnorm.differences(ROADS, FLOWS, timeout=it),
+    lambda it: dnorm.read(ROADS, timeout=it), lambda it: dnorm.write(dnorm.read(ROADS), io.BytesIO(), timeout=it),
+]  # fmt: skip
 
 
 @ALL
 def test_limits() -> None:
     """Limits that are no number of seconds, or one that no clock reaches, and the greatest limit."""
-    write("t.gr", ROADS)
-    write("t.gr.gz", gzip.compress(ROADS))
-    calls: list[Callable[[Any], object]] = [
-        lambda it: dnorm.check("t.gr", timeout=it),
-        lambda it: dnorm.canon(ROADS, timeout=it),
-        lambda it: dnorm.canon_to(ROADS, "new.gr", timeout=it),
-        lambda it: dnorm.checksum("t.gr.gz", timeout=it),
-        lambda it: dnorm.compare("t.gr", "t.gr.gz", timeout=it),
-        lambda it: dnorm.differences("t.gr.gz", "t.gr", timeout=it),
-        lambda it: dnorm.show("t.gr", timeout=it),
-        lambda it: dnorm.read("t.gr.gz", timeout=it),
-        lambda it: dnorm.write(dnorm.read(ROADS), io.BytesIO(), timeout=it),
-    ]
-    for call in calls:
+    for call in TIMED:
         for limit in NO_LIMITS:
+            wanted = "TypeError: timeout is a number of seconds, "
+            if isinstance(limit, (int, float)):
+                wanted = f"ValueError: timeout is at least 0 and at most 1000000000 seconds, and not {limit}"
             found = told(lambda: call(limit))
-            is_number = isinstance(limit, (int, float))
-            kind = (
-                f"at least 0 and at most 1000000000 seconds, and not {limit}" if is_number else "a number of seconds, "
-            )
-            assert found.startswith(f"{'ValueError' if is_number else 'TypeError'}: timeout is {kind}"), found
+            assert found.startswith(wanted), found
         for limit in [10**9, 1e9, Fraction(10**9)]:
             assert told(lambda: call(limit)) == told(lambda: call(None)), "the greatest limit"
-    assert sorted(os.listdir(".")) == ["new.gr", "t.gr", "t.gr.gz"], "what is left"
     for pairs in [-1, 1.5, INFINITE, "1"]:
         wanted = "ValueError: limit is at least 0, and not -1" if pairs == -1 else "TypeError: limit: "
-        found = told(lambda: dnorm.differences("t.gr", "t.gr", pairs))  # type: ignore[arg-type]
+        found = told(lambda: dnorm.differences(ROADS, FLOWS, pairs))  # type: ignore[arg-type]
         assert found.startswith(wanted), "a limit of pairs"
 
 
@@ -517,27 +447,22 @@ def test_folders_of_manifests() -> None:
     found = module("manifest", "--verify", "list", "-q", "--exclude", "bad.gr", "set")
     lines = lines.replace("set/c.gr: same\n", "") + "set/below/new.gr: not listed\n"
     assert found == said(lines, f"{count}, 1 not listed, 1 other file, 1 excluded\n", 1), "-q"
-    found = module("manifest", "--verify", "list", "--json", "set", "none")
-    records = [json.loads(it) for it in found.out.splitlines()]
-    assert {it["name"]: it["status"] for it in records} == {
-        "set/a.gr": "gone",
-        "set/b.min": "differs",
-        "set/c.gr": "same",
-        "set/bad.gr": "not listed",
-        "set/below/new.gr": "not listed",
-        "none": "failed",
-    }, "statuses in JSON"
+    records = records_of("manifest", "--verify", "list", "--json", "set", "none")
+    statuses = {
+        "a.gr": "gone",
+        "b.min": "differs",
+        "c.gr": "same",
+        "bad.gr": "not listed",
+        "below/new.gr": "not listed",
+    }
+    wanted_ = {"none": "failed"} | {f"set/{it}": status for it, status in statuses.items()}
+    assert {it["name"]: it["status"] for it in records} == wanted_, "statuses in JSON"
     assert records[0] == {"name": "set/a.gr", "status": "gone", "checksum": sums["set/a.gr"], "form": 1}, "a record"
-    found = module("manifest", "--json", "--form", "2", "set")
-    records = [json.loads(it) for it in found.out.splitlines()]
-    assert [(it["name"], it["status"]) for it in records] == [
-        ("set/b.min", "listed"),
-        ("set/bad.gr", "refused"),
-        ("set/below/new.gr", "listed"),
-        ("set/c.gr", "listed"),
-    ], "a manifest in JSON"
-    wanted = {"name": "set/c.gr", "status": "listed", "checksum": sums["set/c.gr"], "form": 2}
-    assert (records[3], found.status) == (wanted, 2), "its records"
+    records = records_of("manifest", "--json", "--form", "2", "set")
+    told_ = [f"{it['name']} {it['status']}" for it in records]
+    names = ["set/b.min listed", "set/bad.gr refused", "set/below/new.gr listed", "set/c.gr listed"]
+    assert told_ == names, "a manifest in JSON"
+    assert records[3] == {"name": "set/c.gr", "status": "listed", "checksum": sums["set/c.gr"], "form": 2}, "a record"
 
 
 def test_links() -> None:
@@ -548,9 +473,8 @@ def test_links() -> None:
     os.symlink("one.min", "set/also-one.min")
     found = module("same", "set")
     assert found == said("set/b.gr\nset/sub/c.gr\n", "6 accepted, 0 refused, 0 failed, 1 group, 3 links\n", 0), "same"
-    found = module("same", "--json", "set")
     wanted = {"checksum": dnorm.checksum(ROADS), "names": ["set/b.gr", "set/sub/c.gr"]}
-    assert [json.loads(it) for it in found.out.splitlines()] == [wanted], "same --json"
+    assert records_of("same", "--json", "set") == [wanted], "same --json"
 
 
 def test_on_terminal() -> None:
@@ -571,42 +495,30 @@ LARGE += b"a 3 1 0 2 1\n"
 # Texts, and what `list` says of them below the line of the name.
 LISTED: dict[str, tuple[bytes, str]] = {
     "a.gr": (ROADS, "nodes 3, without arcs 0|lines 7, canonical 5, merged 2, self-loops 1|length -5 to 9, 31 bits"),
-    "b.min": (
-        LARGE,
-        "nodes 4, without arcs 1|lines 4, canonical 3, merged 1, self-loops 1|"
-        "flow -7 to 9000000000, 53 bits|low 0 to 1, 31 bits|cap 1 to 9223372036854775807, 64 bits|"
-        "cost -2147483649 to 1, 32 bits|"
-        f"sums: capacity {2**63 + 2}, capacity times cost {(2**63 - 1) * 2147483649 + 2}, supply 9000000000, "
-        "demand 7",
-    ),
-    "c.max": (
-        b"p max 5 3\nn 5 s\nn 1 t\na 5 1 3000000000\na 5 1 3000000000\na 1 5 0\n",
-        "nodes 5, without arcs 3|lines 3, canonical 1, merged 2, self-loops 0|cap 6000000000 to 6000000000, "
-        "53 bits|sums: capacity 6000000000",
-    ),
-    "d.co": (
-        b"p aux sp co 2\nv 9 -4294967295 1\nv 3 7 4294967296\n",
-        "lines 2, canonical 2|id 3 to 9, 31 bits|" "x -4294967295 to 7, 32 bits|y 1 to 4294967296, 53 bits",
-    ),
+    "b.min": (LARGE, "nodes 4, without arcs 1|lines 4, canonical 3, merged 1, self-loops 1|"
+              "flow -7 to 9000000000, 53 bits|low 0 to 1, 31 bits|cap 1 to 9223372036854775807, 64 bits|"
+              "cost -2147483649 to 1, 32 bits|"
+              f"sums: capacity {2**63 + 2}, capacity times cost {(2**63 - 1) * 2147483649 + 2}, supply 9000000000, "
+              "demand 7"),
+    "c.max": (b"p max 5 3\nn 5 s\nn 1 t\na 5 1 3000000000\na 5 1 3000000000\na 1 5 0\n",
+              "nodes 5, without arcs 3|lines 3, canonical 1, merged 2, self-loops 0|cap 6000000000 to 6000000000, "
+              "53 bits|sums: capacity 6000000000"),
+    "d.co": (b"p aux sp co 2\nv 9 -4294967295 1\nv 3 7 4294967296\n", "lines 2, canonical 2|id 3 to 9, 31 bits|"
+             "x -4294967295 to 7, 32 bits|y 1 to 4294967296, 53 bits"),
     "e.p2p": (b"p aux sp p2p 2\nq 1 7\nq 1 2\n", "lines 2, canonical 2|source 1 to 1, 31 bits|target 2 to 7, 31 bits"),
     "f.sp": (b"p sp 2 0\n", "nodes 2, without arcs 2|lines 0, canonical 0, merged 0, self-loops 0"),
     "g.ss": (b"p aux sp ss 0\n", "lines 0, canonical 0"),
-}
+}  # fmt: skip
 
 
 @BOTH
 def test_lists() -> None:
     """Tests `list`: its lines, its JSON objects and its table."""
     make({f"set/{name}": text for name, (text, _) in LISTED.items()})
-    write("set/h.gr.gz", gzip.compress(b"c\n\tp sp  2 1\na 1 2 3\n"))
-    write("set/x.gr", b"x\n")
-    rows = {
-        **LISTED,
-        "h.gr.gz": (
-            b"c\n\tp sp  2 1\na 1 2 3\n",
-            "nodes 2, without arcs 0|lines 1, canonical 1, " "merged 0, self-loops 0|length 3 to 3, 31 bits",
-        ),
-    }
+    packed = b"c\n\tp sp  2 1\na 1 2 3\n"
+    make({"set/h.gr.gz": gzip.compress(packed), "set/x.gr": b"x\n"})
+    more_ = "nodes 2, without arcs 0|lines 1, canonical 1, merged 0, self-loops 0|length 3 to 3, 31 bits"
+    rows = {**LISTED, "h.gr.gz": (packed, more_)}
     lines, sums = "", {}
     for name, (text, more) in rows.items():
         sums[name] = dnorm.checksum(text)
@@ -616,22 +528,11 @@ def test_lists() -> None:
         lines += f"set/{name}: {kind}\n{below}"
     count = "8 listed, 1 refused, 0 failed\n"
     assert module("list", "set") == said(lines, f"set/x.gr:1: 1 BadLine\n{count}", 2), "list"
-    found = module("list", "--json", "set")
-    records = [json.loads(it) for it in found.out.splitlines()]
-    assert [(it["name"], it.get("checksum")) for it in records] == [
-        *((f"set/{name}", sums[name]) for name in rows),
-        ("set/x.gr", None),
-    ], "list --json"
-    wanted = {
-        "name": "set/c.max",
-        "kind": "max",
-        "bytes": len(LISTED["c.max"][0]),
-        "nodes": 5,
-        "declared": 3,
-        "canonical": 1,
-        "merged": 2,
-        "self_loops": 0,
-    }
+    records = records_of("list", "--json", "set")
+    names = [*((f"set/{name}", sums[name]) for name in rows), ("set/x.gr", None)]
+    assert [(it["name"], it.get("checksum")) for it in records] == names, "list --json"
+    wanted = {"name": "set/c.max", "kind": "max", "bytes": len(LISTED["c.max"][0]), "nodes": 5, "declared": 3}
+    wanted |= {"canonical": 1, "merged": 2, "self_loops": 0}
     wanted |= {"without_arcs": 3, "capacity": 6000000000, "capacity_times_cost": None, "supply": None, "demand": None}
     wanted |= {"fields": {"cap": {"least": 6000000000, "greatest": 6000000000, "bits": 53}}, "checksum": sums["c.max"]}
     assert records[2] == wanted, "a record"
@@ -654,95 +555,73 @@ def costly(arcs: dict[tuple[int, int], str], nodes: int = 3, flow: int = 4) -> b
     return f"p min {nodes} {len(arcs)}\nn 1 {flow}\nn 3 -4\n{lines}".encode()
 
 
-CHANGED: list[tuple[bytes, str]] = [
-    (costly(ARCS), "pairs: 0 only left, 0 only right, 3 in both, 0 of them different"),
-    (
-        costly({**ARCS, (1, 2): "0 40 331"}),
-        "pairs: 0 only left, 0 only right, 3 in both, 1 of them different|"
-        "different in low: 1|< a 1 2 2 40 331|> a 1 2 0 40 331",
-    ),
-    (
-        costly({**ARCS, (1, 2): "0 7 5"}),
-        "pairs: 0 only left, 0 only right, 3 in both, 1 of them different|"
-        "different in low cap cost: 1|< a 1 2 2 40 331|> a 1 2 0 7 5",
-    ),
-    (
-        costly({(2, 3): "0 7 1", (3, 1): "0 5 2"}),
-        "pairs: 1 only left, 0 only right, 2 in both, 0 of them different|" "< a 1 2 2 40 331",
-    ),
-    (
-        costly({(2, 1): "2 40 331", (2, 3): "0 7 1", (3, 1): "0 5 2"}),
-        "pairs: 1 only left, 1 only right, 2 in both, "
-        "0 of them different|reversed: 1, from 1 2|< a 1 2 2 40 331|> a 2 1 2 40 331",
-    ),
-    (
-        costly({it: f"{more}0" for it, more in ARCS.items()}, 4),
-        "nodes: 3 left, 4 right|pairs: 0 only left, 0 only "
-        "right, 3 in both, 3 of them different|different in cost: 3|< a 1 2 2 40 331|> a 1 2 2 40 3310|< a 2 3 0 7 1|"
-        "> a 2 3 0 7 10|< a 3 1 0 5 2|> a 3 1 0 5 20",
-    ),
-    (costly(ARCS, flow=5), "supplies: 1 different|pairs: 0 only left, 0 only right, 3 in both, 0 of them different"),
-    (ROADS, ""),
-]
+def pairs(*counts: int, what: str = "pairs") -> str:
+    return f"{what}: %d only left, %d only right, %d in both, %d of them different" % counts
+
+
+LEFT, CHANGED = costly(ARCS), costly({it: f"{more}0" for it, more in ARCS.items()}, 4)
+REVERSED = costly({(2, 1): "2 40 331", (3, 2): "0 7 1", (3, 1): "0 5 2"})
+WITHOUT = {(2, 3): "0 7 1", (3, 1): "0 5 2"}
+# Two texts, options of `compare`, and the lines that it prints below the first one.
+COMPARED: list[tuple[bytes, bytes, str, list[str]]] = [
+    (LEFT, LEFT, "", [pairs(0, 0, 3, 0)]),
+    (LEFT, costly({**ARCS, (1, 2): "0 40 331"}), "",
+     [pairs(0, 0, 3, 1), "different in low: 1", "< a 1 2 2 40 331", "> a 1 2 0 40 331"]),
+    (LEFT, costly({**ARCS, (1, 2): "0 7 5"}), "",
+     [pairs(0, 0, 3, 1), "different in low cap cost: 1", "< a 1 2 2 40 331", "> a 1 2 0 7 5"]),
+    (LEFT, costly(WITHOUT), "", [pairs(1, 0, 2, 0), "< a 1 2 2 40 331"]),
+    (LEFT, costly({(2, 1): "2 40 331", **WITHOUT}), "",
+     [pairs(1, 1, 2, 0), "reversed: 1, from 1 2", "< a 1 2 2 40 331", "> a 2 1 2 40 331"]),
+    (LEFT, costly({(2, 1): "2 40 332", **WITHOUT}), "", [pairs(1, 1, 2, 0), "< a 1 2 2 40 331", "> a 2 1 2 40 332"]),
+    (b"p min 2 1\na 1 2 0 5 1\n", b"p min 2 2\na 1 2 0 3 1\na 1 2 0 2 4\n", "",
+     [pairs(0, 0, 1, 1), "different in arcs: 1", "< a 1 2 0 5 1", "> a 1 2 0 3 1", "> a 1 2 0 2 4"]),
+    (LEFT, CHANGED, "", ["nodes: 3 left, 4 right", pairs(0, 0, 3, 3), "different in cost: 3", "< a 1 2 2 40 331",
+     "> a 1 2 2 40 3310", "< a 2 3 0 7 1", "> a 2 3 0 7 10", "< a 3 1 0 5 2", "> a 3 1 0 5 20"]),
+    (LEFT, CHANGED, "--limit 0", ["nodes: 3 left, 4 right", pairs(0, 0, 3, 3), "different in cost: 3"]),
+    (LEFT, REVERSED, "--limit 1", [pairs(2, 2, 1, 0), "reversed: 2, from 1 2, ..", "< a 1 2 2 40 331"]),
+    (LEFT, REVERSED, "--limit 2",
+     [pairs(2, 2, 1, 0), "reversed: 2, from 1 2, 2 3", "< a 1 2 2 40 331", "> a 2 1 2 40 331"]),
+    (LEFT, costly(ARCS, flow=5), "", ["supplies: 1 different", pairs(0, 0, 3, 0)]),
+    (LEFT, LEFT.replace(b"n 1 4", b"n 2 4"), "", ["supplies: 2 different", pairs(0, 0, 3, 0)]),
+    (LEFT, ROADS, "", []),
+    (b"p max 3 1\nn 1 s\nn 2 t\na 1 2 5\n", b"p max 3 1\nn 3 s\nn 1 t\na 2 1 5\n", "",
+     ["source: 1 left, 3 right", "sink: 2 left, 1 right", pairs(1, 1, 0, 0), "reversed: 1, from 1 2", "< a 1 2 5",
+      "> a 2 1 5"]),
+    (b"p aux sp ss 2\ns 1\ns 5\n", b"p aux sp ss 1\ns 2\n", "", [pairs(1, 0, 1, 1, what="items"),
+     "different in source: 1", "< s 1, item 1", "> s 2, item 1", "< s 5, item 2"]),
+    (b"p aux sp p2p 2\nq 1 2\nq 1 3\n", b"p aux sp p2p 2\nq 1 2\nq 1 4\n", "",
+     [pairs(0, 0, 2, 1, what="items"), "different in target: 1", "< q 1 3, item 2", "> q 1 4, item 2"]),
+    (b"p aux sp co 1\nv 7 1 2\n", b"p aux sp co 1\nv 7 1 3\n", "",
+     [pairs(0, 0, 1, 1, what="points"), "different in y: 1", "< v 7 1 2", "> v 7 1 3"]),
+]  # fmt: skip
 
 
 @BOTH
 def test_comparisons(tested: str) -> None:
-    """Tests `compare` on mistakes of writers, and the repr of what `show` returns."""
-    write("left", costly(ARCS))
-    for text, lines in CHANGED:
-        write("right", text)
+    """Tests `compare` on mistakes of writers, and the repr of what `differences` returns."""
+    for left, right, options, lines in COMPARED:
+        write("left", left)
+        write("right", right)
         first = run([tested, "compare", "left", "right"])
-        found = module("compare", "left", "right")
-        wanted = first.out.decode() + "".join(f"{it}\n" for it in lines.split("|") if it)
-        assert found == said(wanted, "", first.status), f"compare with {text!r}"
-    write("right", CHANGED[5][0])
-    found = module("compare", "--limit", "0", "left", "right")
-    assert (len(found.out.splitlines()), found.status) == (4, 1), "compare --limit 0"
-    write("right", costly({(2, 1): "2 40 331", (3, 2): "0 7 1", (3, 1): "0 5 2"}))
-    for limit, turned in [("1", "1 2, .."), ("2", "1 2, 2 3")]:
-        found = module("compare", "--limit", limit, "left", "right")
-        assert f"\nreversed: 2, from {turned}\n".encode() in found.out, f"compare --limit {limit}: {found}"
+        wanted = said(first.out.decode() + "".join(f"{it}\n" for it in lines), "", first.status)
+        assert module("compare", *options.split(), "left", "right") == wanted, f"compare {left!r} {right!r} {options}"
     for name, text, line, status in [
         ("bad", b"x\n", "bad:1: 1 BadLine\n    line 1: x\n", 2),
         ("bad.lz4", b"x\n", "bad.lz4: 31 Read (lz4 is not supported)\n", 4),
     ]:
         write(name, text)
         assert module("compare", "left", name) == said("", line, status), f"compare with {name}"
-    companions = [
-        (
-            b"p aux sp ss 2\ns 1\ns 5\n",
-            b"p aux sp ss 1\ns 2\n",
-            "items: 1 only left, 0 only right, 1 in "
-            "both, 1 of them different|different in source: 1|< s 1, item 1|> s 2, item 1|< s 5, item 2",
-        ),
-        (
-            b"p aux sp co 1\nv 7 1 2\n",
-            b"p aux sp co 1\nv 7 1 3\n",
-            "points: 0 only left, 0 only right, 1 in "
-            "both, 1 of them different|different in y: 1|< v 7 1 2|> v 7 1 3",
-        ),
-    ]
-    for left, right, lines in companions:
-        write("left", left)
-        write("right", right)
-        found = module("compare", "left", "right")
-        assert found.out.decode().splitlines()[1:] == lines.split("|"), f"compare {left!r}"
-    shown = dnorm.show("p sp 2000 2000\n".encode() + b"".join(b"a %d 1 7\n" % it for it in range(1, 2001)))
-    assert repr(shown) == "<dnorm.Shown: kind='sp', lines=2000, nodes=2000, 2000 pairs>", "a short repr"
     short = "<dnorm.Differences: differ pair 1 2 length 3 none, only_left=5, only_right=0, both=0, different=0>"
-    assert repr(dnorm.differences(ROADS, b"p sp 3 0\n")) == short, "the repr of differences"
-    assert repr(dnorm.show(b"p aux sp ss 0\n")) == "<dnorm.Shown: kind='ss', lines=0>", "a companion's repr"
-    html = shown._repr_html_()
-    assert (html.count("<tr>"), html.count("<td>...</td>")) == (12, 3) and "<td>length</td></tr><tr><td>1</td>" in html
-    html = dnorm.differences(ROADS, b"p sp 3 0\n")._repr_html_()
+    found = dnorm.differences(ROADS, b"p sp 3 0\n")
+    assert (repr(found), len(dnorm.differences(ROADS, b"p sp 3 0\n", 2).pairs)) == (short, 2), "differences"
+    html = found._repr_html_()
     assert html.startswith("<p>&lt;dnorm.Differences: ") and html.count("<tr>") == 6 and "<td>(1, 2)</td>" in html, html
 
 
 def test_compared_quietly() -> None:
     """Tests `compare` as JSON, without output, and with standard input."""
-    write("left", costly(ARCS))
-    write("right", CHANGED[5][0])
+    write("left", LEFT)
+    write("right", CHANGED)
     record = json.loads(module("compare", "--json", "--limit", "1", "left", "right").out)
     wanted_ = (False, "differ nodes 3 4", 3, [["nodes", 3, 4]], [1, 2])
     told_ = (record["same"], record["first"], record["different"], record["values"], record["pairs"][0]["key"])
@@ -752,50 +631,3 @@ def test_compared_quietly() -> None:
     for words in ["- left", "left -"]:
         piped = module("compare", "-q", *words.split(), given=bytes_of("left"))
         assert piped == said("", "", 0), f"compare -q {words}"
-
-
-def by_pair(text: Known) -> dict[tuple[str, ...], list[list[str]]]:
-    """Returns the arcs of a canonical text of form 2 by their pairs."""
-    found: dict[tuple[str, ...], list[list[str]]] = {}
-    for line in canonical(text, 2).decode().splitlines():
-        if line.startswith("a "):
-            _, tail, head, *more = line.split()
-            found.setdefault((tail, head), []).append(more)
-    return found
-
-
-ENDS = {"source": "s", "sink": "t"}
-
-
-@BOTH
-def test_summaries() -> None:
-    """Tests `differences` on random pairs of graphs, beside a count of the pairs of their canonical texts."""
-    chance = random.Random(SEED)
-    for kind in ["min", "max", "sp"]:
-        graphs: list[tuple[bytes, Known]] = []
-        while len(graphs) < ROUNDS:
-            given = spelled(chance, lines_of(chance, made(chance, kind)))
-            with contextlib.suppress(Fault):
-                graphs.append((given, read(given)))
-        for (one, left), (other, right) in zip(graphs, graphs[1:]):
-            found = dnorm.differences(one, io.BytesIO(other))
-            ours, theirs = by_pair(left), by_pair(right)
-            both = ours.keys() & theirs.keys()
-            different = [it for it in both if ours[it] != theirs[it]]
-            turned = [it for it in ours.keys() - both if it[::-1] not in ours and theirs.get(it[::-1]) == ours[it]]
-            wanted = (len(ours) - len(both), len(theirs) - len(both), len(both), len(different), len(turned))
-            counts = (found.only_left, found.only_right, found.both, found.different, len(found.reversed))
-            assert counts == wanted, f"differences of {one!r} and {other!r}"
-            keys = sorted(tuple(map(int, it)) for it in {*ours, *theirs} if ours.get(it) != theirs.get(it))
-            assert [it.key for it in found.pairs] == keys, "their pairs"
-            assert found.reversed == tuple(sorted(tuple(map(int, it)) for it in turned)), "reversed ones"
-            assert sum(count for _, count in found.fields) == len(different), "their fields"
-            assert str(found.first) == str(dnorm.compare(one, other)), "the first one"
-            flows = [it for it in {*left.flows, *right.flows} if left.flows.get(it, 0) != right.flows.get(it, 0)]
-            ends = [("nodes", left.nodes, right.nodes)]
-            ends += [(name, left.terminals.get(it, 0), right.terminals.get(it, 0)) for name, it in ENDS.items()]
-            unlike = tuple(it for it in ends if it[1] != it[2])
-            assert (found.supplies, found.values) == (len(flows), unlike), "flows and other values"
-    assert len(dnorm.differences(ROADS, b"p sp 3 0\n", 2).pairs) == 2, "a limit"
-    found_ = told(lambda: dnorm.differences(ROADS, ROADS, -1))
-    assert found_ == "ValueError: limit is at least 0, and not -1", "no limit"

@@ -1,20 +1,14 @@
 """Random instances with parallel arcs before and after they are canonicalised, solved by networkx and scipy through the
-Python package, and by GLPK from files. The optimum must be the same. Each case has a seed of its own."""
+Python package. The optimum must be the same. Each case has a seed of its own."""
 
-import bz2
 import importlib.util
 import io
-import os
-import pickle
 import random
-import re
-import shutil
 from typing import Any
 
 import pytest
-from needs import leave_out, need, pass_over, seeds
+from needs import leave_out, seeds
 from reading import Text, canonical
-from shared import run, write
 from test_calls import FORMS, READS, told
 from texts import lines_of
 
@@ -24,8 +18,6 @@ pytestmark = [*READS, pytest.mark.parametrize("reader", ["numpy"], indirect=True
 for it in ["networkx", "scipy"]:
     if not importlib.util.find_spec(it):
         leave_out(it)
-# The optimum in the report of glpsol.
-OPTIMUM = re.compile(rb"^Objective: .*?(\S+) \(M", re.M)
 networkx: Any = importlib.import_module("networkx")
 csgraph: Any = importlib.import_module("scipy.sparse.csgraph")
 optimize: Any = importlib.import_module("scipy.optimize")
@@ -92,17 +84,14 @@ def test_greatest(chance: random.Random) -> None:
     networkx takes no parallel arcs there."""
     side = chance.randint(3, 7)
     text = Text("max", side * side, terminals={"t": side * side, "s": 1})
-    # glpsol counts a loop at the source as a flow from it.
-    pairs = [it for it in grid(chance, side) if it != (1, 1)]
-    text.items = [(u, v, chance.choice([0, chance.randint(1, 20)])) for u, v in pairs]
+    text.items = [(u, v, chance.choice([0, chance.randint(1, 20)])) for u, v in grid(chance, side)]
     before = networkx.DiGraph()
     before.add_nodes_from([1, side * side])
     for at, (u, v, cap) in enumerate(text.items):
         before.add_edges_from([(u, -1 - at), (-1 - at, v)], capacity=cap)
     given = bytes_of(chance, text)
     after, wanted = dnorm.read(given), networkx.maximum_flow_value(before, 1, side * side)
-    found = [by_networkx(after), by_scipy(after), *optima("--maxflow", given)]
-    assert found == [wanted] * len(found), "greatest flows"
+    assert [by_networkx(after), by_scipy(after)] == [wanted] * 2, "greatest flows"
 
 
 def test_cheapest(chance: random.Random) -> None:
@@ -120,8 +109,7 @@ def test_cheapest(chance: random.Random) -> None:
     text.flows = {node: flow for node, flow in balance.items() if flow or chance.random() < 0.3}
     given = bytes_of(chance, text)
     wanted = least_cost(text)
-    found = [*(by_networkx(dnorm.read(given, form)) for form in FORMS), *optima("--mincost", given)]
-    found += [by_linear_program(dnorm.read(given, form)) for form in FORMS]
+    found = [solve(dnorm.read(given, form)) for form in FORMS for solve in (by_networkx, by_linear_program)]
     assert found == [wanted] * len(found), "least costs"
 
 
@@ -195,11 +183,8 @@ def test_unfit() -> None:
         (dnorm.Sp, networkx.Graph([(1, 2)]), "ValueError: the graph is undirected: "),
         (dnorm.Sp, networkx.DiGraph([(0, 1)]), "ValueError: the 2 nodes are not the numbers 1 to 2"),
         (dnorm.Sp, networkx.DiGraph([("a", "b")]), "ValueError: the 2 nodes are not the numbers 1 to 2"),
-        (
-            dnorm.Sp,
-            networkx.DiGraph([(1, 2, {"weight": 0.5})]),
-            "TypeError: the weight of the edge from 1 to 2 is 0.5: '",
-        ),
+        (dnorm.Sp, networkx.DiGraph([(1, 2, {"weight": 0.5})]),
+            "TypeError: the weight of the edge from 1 to 2 is 0.5: '"),
         (dnorm.Sp, arc(weight=5.0), "TypeError: the weight of the edge from 1 to 2 is 5.0: 'float' object cannot be "),
         (dnorm.Min, arc(weight="5"), "TypeError: the weight of the edge from 1 to 2 is '5': 'str' object cannot be "),
         (dnorm.Max, arc(capacity=INFINITE), "TypeError: the capacity of the edge from 1 to 2 is inf: 'float' object "),
@@ -208,23 +193,16 @@ def test_unfit() -> None:
         (dnorm.Sp, arc(weight=2**63), "OverflowError: the weight of the edge from 1 to 2 is 9223372036854775808: "),
         (dnorm.Min, arc(low=2**63 - 1), "OverflowError: the low with the capacity of the edge from 1 to 2 is 922337"),
         (dnorm.Min, demanding(1, 1.5), "TypeError: the demand of node 1: 'float' object cannot be interpreted as an "),
-        (
-            dnorm.Min,
-            demanding(2, 2**63),
-            "OverflowError: the demand of node 2 is 9223372036854775808, which does not ",
-        ),
+        (dnorm.Min, demanding(2, 2**63), "OverflowError: the demand of node 2 is 9223372036854775808, which does not "),
         (dnorm.Max, arc(source=1, sink=3), "ValueError: sink is 3, which is no node of 1 to 2: nodes count from 1"),
         (dnorm.Max, networkx.DiGraph([(1, 2)], source=1, sink=2), "ValueError: the edge from 1 to 2 has no capacity"),
-        (
-            dnorm.Max,
-            networkx.DiGraph([(1, 2, {"capacity": 1})], sink=2),
-            "ValueError: the graph has no attribute source",
-        ),
+        (dnorm.Max, networkx.DiGraph([(1, 2, {"capacity": 1})], sink=2),
+            "ValueError: the graph has no attribute source"),
         (dnorm.Min, directed, "ValueError: the edge from 1 to 2 has no capacity"),
         (dnorm.Ss, networkx.DiGraph([(1, 2, {"capacity": 1})]), "TypeError: from_networkx makes Sp, Max and Min"),
         (dnorm.Sp, networkx.DiGraph([(1, 2, {"length": 5})]), "ValueError: the edge from 1 to 2 has no weight: "),
         ("min", networkx.DiGraph([(1, 2, {"capacity": 5})]), "ValueError: the edge from 1 to 2 has no weight: "),
-    ]
+    ]  # fmt: skip
     for kind, graph, wanted in rows:
         found = told(lambda: dnorm.from_networkx(kind, graph))
         assert found.startswith(wanted), f"{graph.edges(data=True)}: {found}"
@@ -288,31 +266,19 @@ def test_options() -> None:
     made_of: Any = dnorm.from_scipy
     wrong: list[tuple[Any, Any, dict[str, int], str]] = [
         ("sp", sparse.csr_matrix((2, 3), dtype=int), {}, "ValueError: the matrix is not square: its shape is (2, 3)"),
-        (
-            "sp",
-            sparse.csr_matrix([[0, 0.5], [0, 0]]),
-            {},
-            "TypeError: the matrix has numbers of float64, as 0.5 in row ",
-        ),
+        ("sp", sparse.csr_matrix([[0, 0.5], [0, 0]]), {},
+            "TypeError: the matrix has numbers of float64, as 0.5 in row "),
         ("sp", sparse.csr_matrix([[7]]).toarray(), {}, "TypeError: a sparse matrix is wanted, and not ndarray: scipy."),
         ("sp", [[7]], {}, "TypeError: a sparse matrix is wanted, and not list: "),
-        (
-            "sp",
-            sparse.coo_matrix(([3, 4], ([0, 0], [0, 0]))),
-            {},
-            "ValueError: the matrix has two entries at one place",
-        ),
+        ("sp", sparse.coo_matrix(([3, 4], ([0, 0], [0, 0]))), {},
+            "ValueError: the matrix has two entries at one place"),
         ("sp", sparse.csr_matrix([[1]]), {"sink": 1}, "TypeError: Sp takes no sink"),
         ("max", sparse.csr_matrix([[1]]), {}, "TypeError: source and sink are missing: the nodes"),
-        (
-            "max",
-            flow.to_scipy(),
-            {"source": 0, "sink": 2},
-            "ValueError: source is 0, which is no node of 1 to 3: nodes",
-        ),
+        ("max", flow.to_scipy(), {"source": 0, "sink": 2},
+            "ValueError: source is 0, which is no node of 1 to 3: nodes"),
         ("max", flow.to_scipy(), {"source": 1, "sink": 4}, "ValueError: sink is 4, which is no node of 1 to 3: nodes"),
         (dnorm.Min, sparse.csr_matrix([[1]]), {}, "TypeError: from_scipy makes Sp and Max, and not Min"),
-    ]
+    ]  # fmt: skip
     for kind, matrix, words, begin in wrong:
         told_ = told(lambda: made_of(kind, matrix, **words))
         assert told_.startswith(begin), f"{begin}: {told_}"
@@ -337,73 +303,3 @@ def least_cost(text: Text) -> int:
         graph.add_edge(u, v, weight=cost - cheap, capacity=low)
         graph.add_edge(u, v, weight=cost, capacity=cap - low)
     return int(networkx.network_simplex(graph)[0]) + cheap * sum(it[2] for it in text.items)
-
-
-# Instances of the generators of the First DIMACS Challenge, on which networkx tests itself, with their optima; and the
-# sample problems of GLPK with theirs.
-NETWORKX = f"{os.path.dirname(networkx.__file__)}/algorithms/flow/tests/{{}}.gpickle.bz2"
-PUBLISHED = {
-    NETWORKX.format("gl1"): 156545,
-    NETWORKX.format("gw1"): 1202018,
-    NETWORKX.format("wlm3"): 11875108,
-    NETWORKX.format("netgen-2"): 6749969302,
-    "/usr/share/doc/glpk-utils/examples/sample.max": 29,
-    "/usr/share/doc/glpk-utils/examples/sample.min": 213,
-}
-
-
-@pytest.mark.parametrize("path, optimum", PUBLISHED.items(), ids=map(os.path.basename, PUBLISHED))
-def test_published(path: str, optimum: int) -> None:
-    """Compares the optima of instances that others made. Here each arc of those of networkx is two parallel ones."""
-    if not os.path.exists(path):
-        pass_over(path)
-    with bz2.open(path) if path.endswith(".bz2") else open(path, "rb") as file:
-        chance = random.Random(1)
-        text = bytes_of(chance, split(chance, pickle.load(file))) if path.endswith(".bz2") else file.read()
-    found = dnorm.read(text)
-    optimums = [by_networkx(found), *optima("--mincost" if found.kind == "min" else "--maxflow", text)]
-    if found.kind == "max":
-        optimums.append(by_scipy(found))
-    assert optimums == [optimum] * len(optimums)
-
-
-def test_glpsol() -> None:
-    """glpsol is there, without which the other tests leave it out."""
-    need("glpsol")
-
-
-def split(chance: random.Random, graph: Any) -> Text:
-    """Returns the problem of a graph of networkx, with two parallel arcs for each of its edges."""
-    text = Text("max", len(graph), terminals={"s": 1, "t": len(graph)})
-    flows = {node: -demand for node, demand in graph.nodes(data="demand") if demand is not None}
-    if flows:
-        text = Text("min", len(graph), flows=flows)
-    for tail, head, it in graph.edges(data=True):
-        part = chance.randint(0, it["capacity"])
-        for cap in [part, it["capacity"] - part]:
-            text.items.append((tail, head, 0, cap, it["weight"]) if flows else (tail, head, cap))
-    chance.shuffle(text.items)
-    return text
-
-
-def optima(option: str, given: bytes) -> list[int]:
-    """Returns what glpsol, if it is there, finds for a text and for both of its canonical texts."""
-    if not shutil.which("glpsol"):
-        return []
-    found = []
-    for name, text in {"given": given, "one": dnorm.canon(given), "two": dnorm.canon(given, 2)}.items():
-        write(name, text)
-        run(["glpsol", option, name, "--output", f"{name}.out"])
-        with open(f"{name}.out", "rb") as file:
-            optimum = OPTIMUM.search(file.read())
-        assert optimum
-        found.append(round(float(optimum[1])))
-    return found
-
-
-def test_numpy() -> None:
-    """Columns are numpy's here."""
-    numbers = dnorm.read(b"p sp 1 1\na 1 1 7\n")
-    assert isinstance(numbers, dnorm.Sp)
-    column: Any = numbers.lengths
-    assert (type(column).__name__, column.dtype.name) == ("ndarray", "int64")

@@ -4,6 +4,7 @@ elsewhere, and one that pip installed; and where the system lacks calls of Linux
 import gzip
 import os
 import shlex
+import shutil
 import sys
 from collections.abc import Callable
 
@@ -26,7 +27,7 @@ def test_words(tested: str) -> None:
     os.symlink(tested, "a b/dnorm")
     path = os.path.abspath("a b/dnorm")
     quoted = shlex.quote(path)
-    rows = [(path, path), ("a b/dnorm", "a b/dnorm"), (f"env X=1 {quoted}", f"{which('env')} X=1 {quoted}")]
+    rows = [(path, path), ("a b/dnorm", "a b/dnorm"), (f"env X=1 {quoted}", f"{shutil.which('env')} X=1 {quoted}")]
     rows += [("'a b/dnorm'", "a b/dnorm")]
     kept = os.environ["DNORM"]
     for named, found in rows:
@@ -39,10 +40,6 @@ def test_words(tested: str) -> None:
         found = told(lambda: dnorm.check(ROADS))
         assert found.startswith("NoProgram: "), f"no program {named}: {found}"
     os.environ["DNORM"] = kept
-
-
-def which(name: str) -> str:
-    return run(["bash", "-c", f"type -P {name}"]).out.decode().strip()
 
 
 def test_elsewhere(tested: str) -> None:

@@ -6,7 +6,7 @@
     >>> dnorm.compare("flow.min", "flow-cheaper.min")
     Difference(what='cost', left=4, right=3, node=None, pair=(1, 2), amount=5, place=None)
 
-`check`, `canon`, `canon_to`, `checksum`, `compare`, `show` and `read` each run the program once, and `differences`
+`check`, `canon`, `canon_to`, `checksum`, `compare` and `read` each run the program once, and `differences`
 several times. They open each file once. They take a file as a path, as bytes, or as a binary stream, which they read
 from where it is to its end, and do not close. A path that ends in `.gz`, `.bz2` or `.xz` is decompressed while the
 program reads it, also one that ends in `.zst` if Python or the module `zstandard` can; other compressions are errors.
@@ -19,17 +19,17 @@ seconds raises `TimedOut`.
 A text that the program refuses raises `Refused`, and any other failure another `DnormError`. If reading a text fails,
 or a compressed file is corrupt, no call returns an answer for it.
 
-`dnorm-files`, or `python3 -m dnorm`, checks and lists folders, makes and verifies checksums of their files, and
-explains refusals."""
+`dnorm-files`, or `python3 -m dnorm`, checks and lists folders, and makes and verifies checksums of their files."""
 
 from . import alone  # noqa: F401
-from .answers import CapacityPair, Checked, CostPair, Difference, LengthPair, Same, Shown
-from .calls import canon, canon_to, check, checksum, compare, show, write
+from .answers import Checked, Difference, Same
+from .calls import canon, canon_to, check, checksum, compare, write
 from .columns import Column
 from .errors import DnormError, Endless, Killed, Memory, NoProgram, Read, Refused, TimedOut, Unexpected, Write
 from .files import File, Readable, Target, Writable
-from .instances import Co, Graph, Instance, Max, Min, P2p, Sp, Ss, from_arrays
+from .instances import Co, Graph, Instance, Max, Min, P2p, Sp, Ss, Star, from_arrays
 from .library import find_library
+from .lines import ArcLines
 from .networks import from_networkx, from_scipy
 from .pairs import PairDifference
 from .program import find_program, version
@@ -41,52 +41,9 @@ from .summary import Differences, differences
 __version__ = "3.0.0.dev0"
 
 __all__ = [
-    "REFUSALS",
-    "CapacityPair",
-    "Checked",
-    "Co",
-    "Column",
-    "CostPair",
-    "Difference",
-    "Differences",
-    "DnormError",
-    "Endless",
-    "File",
-    "Graph",
-    "Instance",
-    "Killed",
-    "LengthPair",
-    "Max",
-    "Memory",
-    "Min",
-    "NoProgram",
-    "P2p",
-    "PairDifference",
-    "Read",
-    "Readable",
-    "Refused",
-    "Same",
-    "Shown",
-    "Sp",
-    "Ss",
-    "Target",
-    "TimedOut",
-    "Unexpected",
-    "Writable",
-    "Write",
-    "canon",
-    "canon_to",
-    "check",
-    "checksum",
-    "compare",
-    "differences",
-    "find_library",
-    "find_program",
-    "from_arrays",
-    "from_networkx",
-    "from_scipy",
-    "read",
-    "show",
-    "version",
-    "write",
-]
+    "REFUSALS", "ArcLines", "Checked", "Co", "Column", "Difference", "Differences", "DnormError", "Endless", "File",
+    "Graph", "Instance", "Killed", "Max", "Memory", "Min", "NoProgram", "P2p", "PairDifference", "Read", "Readable",
+    "Refused", "Same", "Sp", "Ss", "Star", "Target", "TimedOut", "Unexpected", "Writable", "Write", "canon",
+    "canon_to", "check", "checksum", "compare", "differences", "find_library", "find_program", "from_arrays",
+    "from_networkx", "from_scipy", "read", "version", "write",
+]  # fmt: skip

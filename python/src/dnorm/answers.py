@@ -7,27 +7,13 @@ import re
 from collections.abc import Iterable, Sequence
 from dataclasses import dataclass
 from itertools import islice
-from typing import TYPE_CHECKING, Literal, NamedTuple, Optional, Union, cast
+from typing import TYPE_CHECKING, Literal, Optional, Union, cast
 
 KIND, NUMBER = "min|max|sp|ss|p2p|co", "-?[0-9]+"
 # A canonical form, and what `check` prints of the forms of a text.
 Form = Literal[1, 2]
 FORMS: dict[str, tuple[Form, ...]] = {"none": (), "1": (1,), "2": (2,), "1 2": (1, 2)}
 CHECKED = re.compile(rf"accepted ({KIND})\n(?:fits (ss|p2p|co)\n)?forms ({'|'.join(FORMS)})\n")
-# The lines of `show` for a text of each kind, up to those of the pairs, and the line of a pair. N stands for a number.
-SHOWN = {
-    "min": "kind min\nnodes N\nlines N\nsupplies N\npairs N\n",
-    "max": "kind max\nnodes N\nlines N\nsource N\nsink N\npairs N\n",
-    "sp": "kind sp\nnodes N\nlines N\npairs N\n",
-    "ss": "kind ss\nlines N\n",
-    "p2p": "kind p2p\nlines N\n",
-    "co": "kind co\nlines N\n",
-}
-PAIRS = {
-    "min": "pair N N forced N cost N steps N\n",
-    "max": "pair N N total N\n",
-    "sp": "pair N N length N\n",
-}
 # The line of `compare` for each difference. Words in capitals stand for values.
 DIFFERENCES = {
     "kind": "differ kind LEFT RIGHT",
@@ -65,65 +51,6 @@ class Checked:
     kind: str
     fits: Optional[str]
     forms: tuple[Form, ...]
-
-
-class LengthPair(NamedTuple):
-    """The least length of the arcs from `tail` to `head`, in an `sp` text."""
-
-    tail: int
-    head: int
-    length: int
-
-
-class CapacityPair(NamedTuple):
-    """The total capacity of the arcs from `tail` to `head`, in a `max` text."""
-
-    tail: int
-    head: int
-    total: int
-
-
-class CostPair(NamedTuple):
-    """The arcs from `tail` to `head` in a `min` text: `forced` units, which cost `cost` together, and free capacity at
-    `steps` different costs."""
-
-    tail: int
-    head: int
-    forced: int
-    cost: int
-    steps: int
-
-
-Pair = Union[LengthPair, CapacityPair, CostPair]
-PAIR_TYPES: dict[str, type[Pair]] = {"min": CostPair, "max": CapacityPair, "sp": LengthPair}
-
-
-@dataclass(frozen=True, repr=False)
-class Shown:
-    """What a text contains.
-
-    `lines` is the number of its counted lines. Graphs have `nodes`, and `pairs` has the ordered pairs whose arcs mean
-    something, by rising tail and head. A `min` text has `supplies`, the number of nodes whose flow is not 0. A `max`
-    text has `source` and `sink`. What the kind does not have is None, and a companion has no pairs."""
-
-    kind: str
-    lines: int
-    nodes: Optional[int] = None
-    supplies: Optional[int] = None
-    source: Optional[int] = None
-    sink: Optional[int] = None
-    pairs: tuple[Pair, ...] = ()
-
-    def __repr__(self) -> str:
-        values = {name: value for name, value in vars(self).items() if value is not None and name != "pairs"}
-        found = [f"{name}={value!r}" for name, value in values.items()]
-        if self.nodes is not None:
-            found.append(f"{len(self.pairs)} pairs")
-        return f"<dnorm.Shown: {', '.join(found)}>"
-
-    def _repr_html_(self) -> str:
-        """Returns what a notebook shows: the first pairs as a table."""
-        return table(self, PAIR_TYPES[self.kind]._fields if self.kind in PAIR_TYPES else (), self.pairs)
 
 
 @dataclass(frozen=True)
@@ -227,11 +154,6 @@ else:
     AnyDifference = Difference
 
 
-def pattern_of(line: str) -> re.Pattern[str]:
-    """Returns the pattern of lines in which N stands for a number."""
-    return re.compile(line.replace("N", f"({NUMBER})"))
-
-
 def difference_pattern(what: str) -> re.Pattern[str]:
     """Returns the pattern of the line of a difference, with a group for each value."""
     side = {"kind": KIND, "length": f"{NUMBER}|none", "cost": f"{NUMBER}|none"}.get(what, NUMBER)
@@ -240,39 +162,16 @@ def difference_pattern(what: str) -> re.Pattern[str]:
     return re.compile(" ".join(groups) + "\n")
 
 
-SHOWN_PATTERNS = {kind: pattern_of(lines) for kind, lines in SHOWN.items()}
-PAIR_PATTERNS = {kind: pattern_of(line) for kind, line in PAIRS.items()}
 DIFFERENCE_PATTERNS = {what: difference_pattern(what) for what in DIFFERENCES}
 
 
 def checked(out: str) -> Checked:
-    """Returns what the lines of `check` say. Raises ValueError for other lines, as the next functions do."""
+    """Returns what the lines of `check` say. Raises ValueError for other lines, as `compared` does."""
     found = CHECKED.fullmatch(out)
     if not found:
         raise ValueError(out)
     kind, fits, forms = found.groups()
     return Checked(kind, fits, FORMS[forms])
-
-
-def shown(out: str) -> Shown:
-    """Returns what the lines of `show` say."""
-    for kind, pattern in SHOWN_PATTERNS.items():
-        head = pattern.match(out)
-        if head:
-            values = dict(zip((it.split()[0] for it in SHOWN[kind].splitlines()[1:]), map(int, head.groups())))
-            pairs = tuple(pair_on(kind, it) for it in out[head.end() :].splitlines(keepends=True))
-            if len(pairs) == values.get("pairs", 0):
-                nodes, supplies, source, sink = map(values.get, ("nodes", "supplies", "source", "sink"))
-                return Shown(kind, values["lines"], nodes, supplies, source, sink, pairs)
-    raise ValueError(out)
-
-
-def pair_on(kind: str, line: str) -> Pair:
-    """Returns the pair on a line of `show`."""
-    found = PAIR_PATTERNS[kind].fullmatch(line) if kind in PAIR_PATTERNS else None
-    if not found:
-        raise ValueError(line)
-    return PAIR_TYPES[kind]._make(map(int, found.groups()))
 
 
 def compared(out: str) -> Same | AnyDifference:

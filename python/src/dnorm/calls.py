@@ -1,4 +1,4 @@
-"""The calls that check, canonicalise, compare, show and write texts. Each runs the program once."""
+"""The calls that check, canonicalise, compare and write texts. Each runs the program once."""
 
 from __future__ import annotations
 
@@ -7,8 +7,8 @@ import warnings
 from collections.abc import Callable, Iterator, Sequence
 from typing import Optional, TypeVar, Union
 
-from .answers import AnyDifference, Checked, Form, Same, Shown, checked, compared, shown
-from .files import File, Sink, Target, enough_memory, name_of, sink_of
+from .answers import AnyDifference, Checked, Form, Same, checked, compared
+from .files import File, Pieces, Sink, Target, enough_memory, name_of, sink_of
 from .instances import Instance
 from .limits import Limit
 from .names import KINDS, parts_of
@@ -65,19 +65,6 @@ def checksum(file: File, form: Form = 1, *, program: Program = None, timeout: Op
     return found.hexdigest()
 
 
-class Copied:
-    """A stream whose pieces also go into a sink."""
-
-    def __init__(self, pieces: Iterator[bytes], sink: Sink) -> None:
-        self.name, self._pieces, self._sink = sink.name, pieces, sink
-
-    def read(self, _: int, /) -> bytes:
-        piece = next(self._pieces, b"")
-        if piece:
-            self._sink.take(piece)
-        return piece
-
-
 def write(instance: Instance, target: Target, *, program: Program = None, timeout: Optional[float] = None) -> None:
     """Writes a text that poses the problem of an instance, with its arcs or items in their order, to a path or a binary
     stream, as `canon_to` does. The text of an instance that was read is the canonical text.
@@ -89,17 +76,18 @@ def write(instance: Instance, target: Target, *, program: Program = None, timeou
     expected = KINDS.get(parts_of(name_of(target))[1], instance.kind)
     if expected != instance.kind:
         warnings.warn(f"{name_of(target)}: its ending is that of {expected}, not of {instance.kind}", stacklevel=2)
+
+    def copied() -> Iterator[bytes]:
+        for piece in instance.pieces():
+            sink.take(piece)
+            yield piece
+
     with sink_of(target) as sink:
-        canon_into(Sink("out", len), Copied(instance.pieces(), sink), 1, program, Limit(timeout, sink.name))
+        canon_into(Sink("out", len), Pieces(sink.name, copied()), 1, program, Limit(timeout, sink.name))
 
 
 def canon_into(
-    sink: Sink,
-    file: File,
-    form: int,
-    program: Program,
-    limit: Limit,
-    watch: Optional[Callable[[bytes], object]] = None,
+    sink: Sink, file: File, form: int, program: Program, limit: Limit, watch: Optional[Callable[[bytes], object]] = None
 ) -> None:
     """Writes the canonical text of a text into a sink. `watch` takes the pieces of the text."""
     check_form(form)
@@ -120,13 +108,6 @@ def compare(
     """Returns `Same` if both texts pose the same problem, or else their first `Difference`. As a condition, `Same` is
     true and a `Difference` is false."""
     return answer(compared, lambda *names: ["compare", *names], [left, right], program, Limit(timeout, name_of(left)))
-
-
-def show(file: File, *, program: Program = None, timeout: Optional[float] = None) -> Shown:
-    """Returns what a text contains. `read` returns its arcs, too."""
-    limit = Limit(timeout, name_of(file))
-    with enough_memory(limit.name):
-        return answer(shown, lambda name: ["show", name], [file], program, limit)
 
 
 def answer(

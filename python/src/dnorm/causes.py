@@ -59,17 +59,14 @@ NO_LIMIT = "for no limit, write a capacity that no flow exceeds"
 REMEDIES = {
     3: "Separate the files, or keep one problem line with the sums of the counts",
     4: "The kinds are min, max, sp, aux sp ss, aux sp p2p and aux sp co, in lower case",
-    6: "Put all node lines before the arcs",
-    8: "Add the field, or put the comment on a line of its own",
-    9: "Scale to whole numbers; remove a fraction that is 0",
-    10: f"Scale the numbers down; {NO_LIMIT}",
-    11: f"Costs, lengths and flows may be below 0; {NO_LIMIT}",
-    12: "Write s for the source and t for the sink",
+    6: "Put all node lines before the arcs", 8: "Add the field, or put the comment on a line of its own",
+    9: "Scale to whole numbers; remove a fraction that is 0", 10: f"Scale the numbers down; {NO_LIMIT}",
+    11: f"Costs, lengths and flows may be below 0; {NO_LIMIT}", 12: "Write s for the source and t for the sink",
     16: f"The order is LOW, CAP, COST; {NO_LIMIT}",
     18: "The text has only comments, or the command that wrote it failed",
     19: "Add the line n ID s or n ID t, before the arcs",
     36: "The graph comes first, an sp text, and then the companion, an ss, p2p or co text",
-}
+}  # fmt: skip
 
 
 class Cause(NamedTuple):
@@ -165,24 +162,27 @@ def counted(pieces: Iterator[bytes]) -> int:
     return count + len(COUNTED.findall(rest))
 
 
+def meaning_of(head: bytes) -> tuple[str, str]:
+    """Returns what the first bytes of a file mean, and the command that makes a text of it, or nothing for none."""
+    for mark, what, command in MARKS:
+        if head.startswith(mark):
+            return what, command
+    found = next((what for begin, what in HEADS if head.lstrip().lower().startswith(begin)), "")
+    return ("" if head else "The file is empty") or found, ""
+
+
 def hints_of_bytes(head: bytes, refused: bytes | None, name: str | None) -> Iterator[str]:
     """Yields what the first bytes of a text mean, and the last ones of the refused line."""
 
     def hint(what: str, command: str) -> str:
-        return f"{what}: {command.format(quoted(name))} | dnorm check -" if name else what
+        return f"{what}: {command.format(quoted(name))} | dnorm check -" if name and command else what
 
-    for mark, what, command in MARKS:
-        if head.startswith(mark):
-            yield hint(what, command)
-            return
-    for order in (order for pattern, order in WIDE if pattern.match(head)):
-        yield hint("The file is in UTF-16 without a mark", f"iconv -f UTF-16{order} -t UTF-8 < {{}}")
-        return
-    found = next((what for begin, what in HEADS if head.lstrip().lower().startswith(begin)), None)
-    if found:
-        yield found
-    elif not head:
-        yield "The file is empty"
+    found = meaning_of(head)
+    wide = next((order for pattern, order in WIDE if pattern.match(head)), "")
+    if found[0]:
+        yield hint(*found)
+    elif wide:
+        yield hint("The file is in UTF-16 without a mark", f"iconv -f UTF-16{wide} -t UTF-8 < {{}}")
     elif refused and CONFLICT.fullmatch(refused):
         yield "The line is of a conflict that git could not merge: keep one side, and remove such lines"
     else:
@@ -201,19 +201,14 @@ def hints_of_ends(head: bytes, refused: bytes | None, hint: Callable[[str, str],
 
 def hint_of_compressed(head: bytes, name: str) -> str:
     """Returns what the first bytes of a file mean that cannot be decompressed as its name says."""
-    found = next((what for begin, what in HEADS if head.lstrip().lower().startswith(begin)), None)
-    if found:
-        return found
-    if not head:
-        return "The file is empty"
     if head.startswith(PACKED.get(ending_of(name), b"\0")):
         return "The file is cut or damaged: get it again"
-    for mark, what, command in MARKS:
-        if head.startswith(mark):
-            return f"{what}, and its name says another thing: {command.format(quoted(name))} | dnorm check -"
-    if re.fullmatch(rb"[\t\n\r -~]+", head):
+    what, command = meaning_of(head)
+    if command:
+        return f"{what}, and its name says another thing: {command.format(quoted(name))} | dnorm check -"
+    if not what and re.fullmatch(rb"[\t\n\r -~]+", head):
         return f"The file is not compressed: dnorm check - < {quoted(name)}"
-    return "The file is not compressed as its name says"
+    return what or "The file is not compressed as its name says"
 
 
 def hint_of_missing(path: str | os.PathLike[str] | os.PathLike[bytes]) -> str | None:

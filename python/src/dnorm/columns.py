@@ -56,33 +56,6 @@ def read_only(numbers: Any) -> Any:
     return numbers
 
 
-class Growing:
-    """Numbers of a column that are read one array after another. With numpy, the room for them doubles where they do
-    not fit; the system gives memory only to what is written."""
-
-    def __init__(self) -> None:
-        self._np = numpy_here()
-        self._numbers: Any = array("q") if self._np is None else self._np.empty(0, self._np.int64)
-        self._count = 0
-
-    def extend(self, more: Any) -> None:
-        """Adds the numbers of an array."""
-        if self._np is None:
-            self._numbers.extend(more)
-            return
-        end = self._count + len(more)
-        if end > len(self._numbers):
-            wider = self._np.empty(max(end, 2 * len(self._numbers)), self._np.int64)
-            wider[: self._count] = self._numbers[: self._count]
-            self._numbers = wider
-        self._numbers[self._count : end] = more
-        self._count = end
-
-    def column(self) -> Any:
-        """Returns the column."""
-        return column(self._numbers) if self._np is None else read_only(self._numbers[: self._count])
-
-
 class Own:
     """A column whose memory nothing else writes, so that an instance may keep it without a copy."""
 

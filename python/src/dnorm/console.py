@@ -1,12 +1,15 @@
-"""Standard output and standard error of a command, and the signals that end it."""
+"""What commands share: standard output and standard error, the signals that end a run, and numbers of options."""
 
 from __future__ import annotations
 
+import argparse
 import contextlib
 import os
+import re
 import signal
 import threading
 import time
+from collections.abc import Callable, Iterator
 from typing import NoReturn
 
 from .errors import Write
@@ -26,11 +29,30 @@ class Stopped(BaseException):
         self.number = number
 
 
+@contextlib.contextmanager
+def heeding_signals() -> Iterator[None]:
+    """Raises the signal that comes while `threading` has let a lock go for a wait: the lock, which is then released a
+    second time, complains in its place."""
+    try:
+        yield
+    except RuntimeError as error:
+        if isinstance(error.__context__, Stopped):
+            raise error.__context__ from None
+        raise
+
+
 def stop(number: int, _: object) -> NoReturn:
     """Handles a signal. A second one must not disturb how the run ends."""
     for it in SIGNALS:
         signal.signal(it, signal.SIG_IGN)
     raise Stopped(number)
+
+
+def heed() -> None:
+    """Lets signals end the run. What is ignored, as by nohup, stays ignored."""
+    for it in SIGNALS:
+        if signal.getsignal(it) != signal.SIG_IGN:
+            signal.signal(it, stop)
 
 
 def has_output() -> bool:
@@ -121,3 +143,15 @@ def for_terminal(text: str) -> str:
 def bytes_of(character: str) -> str:
     """Returns the bytes of a character, each as \\xNN."""
     return "".join(f"\\x{byte:02x}" for byte in os.fsencode(character))
+
+
+def number(least: int) -> Callable[[str], int]:
+    """Returns what reads the number of an option, which is at least this one."""
+
+    def read(word: str) -> int:
+        found = int(word) if re.fullmatch("[0-9]{1,9}", word, re.ASCII) else -1
+        if found < least:
+            raise argparse.ArgumentTypeError(f"a whole number from {least} on is wanted, and not {word!r}")
+        return found
+
+    return read

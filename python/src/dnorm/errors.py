@@ -120,7 +120,6 @@ class Read(Failed):
 
     def __init__(self, name: str, reason: str = "", hint: Optional[str] = None) -> None:
         super().__init__(name, reason)
-        self.args = (name, reason, hint)
         self.hint = hint
 
 

@@ -9,11 +9,11 @@ import os
 import secrets
 import stat
 import threading
-from collections.abc import Callable, Iterator
+from collections.abc import Callable, Iterable, Iterator
 from typing import BinaryIO, Optional, Protocol, Union
 
 from .causes import SHOWN, Cause, cause_of, hint_of_compressed, hint_of_missing
-from .compressed import SIZE, Compressed, Stream, compressor_of, decompressor_of, pieces
+from .compressed import SIZE, Compressed, compression_of, compressor_of, pieces
 from .errors import DnormError, Memory, Read, Refused, Write
 from .instances import Instance
 from .limits import Limit, Timed
@@ -54,22 +54,19 @@ def reason_of(error: Exception) -> str:
     return (isinstance(error, OSError) and error.strerror) or str(error) or type(error).__name__
 
 
-class failing:
-    """A context that raises an error of this kind if anything fails, with the reason. Errors of this package, wrong
-    types, lack of memory, and the error of a handler of an alarm stay what they are."""
-
-    def __init__(self, kind: type[Read] | type[Write], name: str) -> None:
-        self.kind, self.name = kind, name
-
-    def __enter__(self) -> None:
-        pass
-
-    def __exit__(self, _: object, error: BaseException | None, __: object) -> None:
-        if not isinstance(error, Exception) or isinstance(error, (DnormError, TypeError, MemoryError)):
-            return
+@contextlib.contextmanager
+def failing(kind: type[Read] | type[Write], name: str) -> Iterator[None]:
+    """Raises an error of this kind if anything fails, with the reason. Errors of this package, wrong types, lack of
+    memory, and the error of a handler of an alarm stay what they are."""
+    try:
+        yield
+    except (DnormError, TypeError, MemoryError):
+        raise
+    except Exception as error:
         # That of the system has a number.
-        if not isinstance(error, TimeoutError) or error.errno is not None:
-            raise self.kind(self.name, reason_of(error)) from error
+        if isinstance(error, TimeoutError) and error.errno is None:
+            raise
+        raise kind(name, reason_of(error)) from error
 
 
 @contextlib.contextmanager
@@ -95,6 +92,16 @@ def takes(pipe: BinaryIO, data: bytes) -> bool:
     except BrokenPipeError:
         return False
     return True
+
+
+class Pieces:
+    """A stream of these pieces, one after another."""
+
+    def __init__(self, name: str, pieces: Iterable[bytes]) -> None:
+        self.name, self._pieces = name, iter(pieces)
+
+    def read(self, _: int, /) -> bytes:
+        return next(self._pieces, b"")
 
 
 def of_bytes(data: memoryview) -> Iterator[bytes]:
@@ -224,8 +231,8 @@ class Text:
         file = self.file
         if self._opened:
             with failing(Read, self.name):
-                start = decompressor_of(self.name)
-            return self._decompressed(self._opened, start) if start else self._opened
+                ending = compression_of(self.name)
+            return self._decompressed(self._opened, ending) if ending else self._opened
         if isinstance(file, (bytes, bytearray, memoryview)):
             return of_bytes(memoryview(file).cast("B"))
         if isinstance(file, Instance):
@@ -235,10 +242,10 @@ class Text:
             raise TypeError(f"a file is {kinds}, and not {type(file).__name__}")
         return of_stream(file)
 
-    def _decompressed(self, file: io.FileIO, start: Callable[[], Stream]) -> Iterator[bytes]:
+    def _decompressed(self, file: io.FileIO, ending: str) -> Iterator[bytes]:
         """Yields what the file decompresses to, in pieces."""
         try:
-            yield from pieces(Timed(file, self.limit), start)
+            yield from pieces(Timed(file, self.limit), ending)
         except (OSError, EOFError) as error:
             head = os.pread(file.fileno(), SHOWN, 0) if self._mark else b""
             hint = hint_of_compressed(head, self.name) if self._mark else None

@@ -6,122 +6,107 @@ from __future__ import annotations
 import contextlib
 import ctypes
 import functools
+import hashlib
 import os
 from array import array
 from collections.abc import Iterator
-from typing import Any, Optional
+from typing import Any, Optional, cast
 
-from .columns import column, numpy_here, read_only
+from .answers import AnyDifference, Difference, Same
+from .columns import column
 from .errors import DnormError, Endless, Memory, NoProgram, Refused
 from .files import Text
 from .limits import Lease
 from .program import Program, children, command, script_folders, unexpected, with_cause
 from .refusals import REFUSALS
 
-NAME = "libdnorm.so.2"
-# The number of the interface that this module knows.
-ABI = 2
+# The name of the library ends with the number of the interface that this module knows.
+ABI = 3
+NAME = f"libdnorm.so.{ABI}"
 # Where the library is, from the folder of the program: below PREFIX, on Debian, and in the archive of a release. On
 # Debian, libraries for other processors may be beside that of this machine.
 BESIDE = ["../lib", f"../lib/{os.uname().machine}-linux-gnu", "lib"]
 # Kinds by their numbers, with the numbers of an arc, and those of an item of a companion, that are columns.
 KINDS = [("", 0), ("min", 5), ("max", 3), ("sp", 3), ("ss", 1), ("p2p", 2), ("co", 3)]
 GRAPHS = ("min", "max", "sp")
-FINE, MEMORY, AT_LINE = 0, 30, 1
-# The number of arcs, and the least number of items, that are copied at a time. Between two calls it is seen whether the
-# time is over. A call for items may walk over those before, so that it copies at least a quarter of them.
-ROOM = 1 << 16
+# What a difference is about, by its number; and a pair by the kind of the graphs.
+WHAT = ["same", "kind", "nodes", "supply", "source", "sink", "pair", "items", "item", "point"]
+OF_PAIR = {"sp": "length", "max": "capacity", "min": "cost"}
+# Some codes, and the place of a status that has a line.
+FINE, MEMORY, NOT_IN_GRAPH, AT_LINE = 0, 30, 35, 1
+# How many arcs, items or arc lines, and how many bytes, are copied at a time. Between two calls it is seen whether the
+# time is over.
+ROOM, BYTES = 1 << 14, 1 << 16
 # A text of so many bytes has no end, as the program says it.
 ENDLESS = 1 << 40
 
-
-class Handle(ctypes.Structure):
-    """What C has of a reader or an instance."""
-
-    _fields_ = [("work", ctypes.c_void_p), ("full", ctypes.c_bool)]
+U8, I64, U64, SIZE, ADDRESS = ctypes.c_uint8, ctypes.c_int64, ctypes.c_uint64, ctypes.c_size_t, ctypes.c_void_p
 
 
-class Status(ctypes.Structure):
-    """The answer of a call."""
-
-    _fields_ = [("code", ctypes.c_uint8), ("place", ctypes.c_uint8), ("line", ctypes.c_uint64)]
-
-
-class Summary(ctypes.Structure):
-    """What an instance is, in numbers."""
-
-    _fields_ = [
-        ("kind", ctypes.c_uint8),
-        ("nodes", ctypes.c_int64),
-        ("lines", ctypes.c_int64),
-        ("pairs", ctypes.c_uint64),
-        ("items", ctypes.c_uint64),
-    ]
+def struct(**fields: Any) -> Any:
+    """Returns a struct of C with these fields."""
+    return type("Struct", (ctypes.Structure,), {"_fields_": [*fields.items()]})
 
 
-class Count(ctypes.Structure):
-    """How many a call copied or counted."""
-
-    _fields_ = [("count", ctypes.c_size_t), ("code", ctypes.c_uint8)]
-
-
-class Place(ctypes.Structure):
-    """A place between two arcs or items. That of zeros is before the first one."""
-
-    _fields_ = [
-        ("pairs", ctypes.c_size_t),
-        ("within", ctypes.c_uint64),
-        *[(name, ctypes.c_int64) for name in ("a", "b", "c")],
-    ]
-
-
+# What C has of a reader, an instance or a text.
+Handle = struct(work=ADDRESS, full=ctypes.c_bool)
+# The answer of a call.
+Status = struct(code=U8, place=U8, line=U64)
+# What an instance is, in numbers.
+Summary = struct(kind=U8, nodes=I64, lines=I64, pairs=U64, items=U64)
+# How many a call copied or counted.
+Count = struct(count=SIZE, code=U8)
+# A place between two arcs or items. That of zeros is before the first one.
+Place = struct(pairs=SIZE, within=U64, a=I64, b=I64, c=I64)
+# What a reader of arc lines took and gave.
+Given = struct(used=SIZE, count=SIZE, code=U8, line=U64)
+# A whole number of 128 bits, if it is known.
+Value = struct(known=ctypes.c_bool, high=I64, low=U64)
+# Where two instances first differ.
+First = struct(what=U8, at=I64, to=I64, index=U64, amount=I64, left=Value, right=Value)
+# Whether a companion fits a graph.
+Fit = struct(code=U8, node=I64)
 HANDLE, PLACE = ctypes.POINTER(Handle), ctypes.POINTER(Place)
-SIZE, ADDRESS = ctypes.c_size_t, ctypes.c_void_p
 # The functions that are called: what each returns, and its arguments.
 FUNCTIONS: dict[str, tuple[Any, ...]] = {
     "begin": (Status, HANDLE),
     "feed": (Status, HANDLE, ctypes.c_char_p, SIZE),
     "finish": (Status, HANDLE),
     "facts": (Summary, HANDLE),
-    "arc_count": (Count, HANDLE, ctypes.c_uint8),
-    "columns": (Count, HANDLE, ctypes.c_uint8, PLACE, *[ADDRESS, SIZE] * 5),
+    "arc_count": (Count, HANDLE, U8),
+    "next": (Count, HANDLE, U8, PLACE, ADDRESS, SIZE),
     "items": (Count, HANDLE, PLACE, ADDRESS, SIZE),
+    "lines_begin": (Status, HANDLE),
+    "lines": (Given, HANDLE, ADDRESS, SIZE, ADDRESS, SIZE),
+    "canon": (Status, HANDLE, U8, HANDLE),
+    "text": (Count, HANDLE, SIZE, ctypes.c_char_p, SIZE),
+    "compare": (First, HANDLE, HANDLE),
+    "fits": (Fit, HANDLE, HANDLE),
     "free": (None, HANDLE),
 }
 
 
 class Library:
-    """The library in this file. Raises OSError or AttributeError for another file, and ValueError for a library of
-    another interface."""
+    """The library in this file. Raises OSError or AttributeError for another file, and for a library of an interface
+    that lacks a function."""
 
     def __init__(self, path: str) -> None:
-        self.path = path
-        loaded = ctypes.CDLL(path)
-        loaded.dnorm_abi.restype = ctypes.c_uint32
-        if loaded.dnorm_abi() != ABI:
-            raise ValueError(f"its interface has the number {loaded.dnorm_abi()}, and not {ABI}")
-        self.calls: dict[str, Any] = {}
+        self.path, self._loaded = path, ctypes.CDLL(path)
         for name, (result, *arguments) in FUNCTIONS.items():
-            call = getattr(loaded, f"dnorm_{name}")
+            call = getattr(self, name)
             call.restype, call.argtypes = result, arguments
-            self.calls[name] = call
 
     def __getattr__(self, name: str) -> Any:
-        return self.calls[name]
+        return getattr(self._loaded, f"dnorm_{name}")
 
 
-# The libraries that were tried, by their paths, or why they are none.
-libraries: dict[str, Library | Exception] = {}
-
-
+@functools.lru_cache(maxsize=None)
 def loaded(path: str) -> Library | Exception:
     """Returns the library of this path, or why it is none."""
-    if path not in libraries:
-        try:
-            libraries[path] = Library(path)
-        except (OSError, AttributeError, ValueError) as error:
-            libraries[path] = error
-    return libraries[path]
+    try:
+        return Library(path)
+    except (OSError, AttributeError) as error:
+        return error
 
 
 def library_of(program: Program) -> Library | None:
@@ -162,43 +147,25 @@ def find_library(program: Program = None) -> Optional[str]:
     return found.path if found else None
 
 
-class Instance:
-    """An instance that the library has read of a text: its kind, `nodes`, and its numbers as columns."""
+class Held:
+    """An instance that the library has read of a text: its kind, `nodes`, the numbers of counted `lines` that were read
+    and of `pairs` with arcs, and its numbers as columns. Calls take the lease that may go on after the instance."""
 
-    def __init__(self, library: Library, handle: Any, text: Text, form: int) -> None:
-        self._library, self._handle, self._text, self._form = library, handle, text, form
+    def __init__(self, library: Library, handle: Any, text: Text, lease: Lease) -> None:
+        self._library, self._handle, self._text, self._lease = library, handle, text, lease
         facts = library.facts(handle)
         self.kind, self._width = KINDS[facts.kind]
         self.nodes: int = facts.nodes
+        self.lines: int = facts.lines
+        self.pairs: int = facts.pairs
         self._item_count: int = facts.items
 
-    # What calls take that may go on after the instance.
-    lease: Lease
-
-    @property
-    def handle(self) -> Any:
-        """What the functions of the library take."""
-        return self._handle
-
-    @property
-    def sizes(self) -> tuple[int, int]:
-        """The numbers of counted lines that were read, and of pairs with arcs."""
-        facts = self._library.facts(self._handle)
-        return facts.lines, facts.pairs
-
-    def columns(self) -> list[Any]:
-        """Returns the columns of the arcs, or of the items of a companion."""
+    def columns(self, form: int) -> list[Any]:
+        """Returns the columns of the arcs in a form, or of the items of a companion."""
         if self.kind not in GRAPHS:
             return self._items(self._width)
-        count = self._counted(self._library.arc_count(self._handle, self._form))
-        # The last two numbers of an arc are not copied where the kind lacks them.
-        columns, place = [room_for(count) for _ in range(self._width)], Place()
-        for done in range(0, count, ROOM):
-            rooms = [word for _, at in columns for word in (at + 8 * done, min(ROOM, count - done))]
-            words = [*rooms, *[None, 0] * (5 - self._width)]
-            self._counted(self._library.columns(self._handle, self._form, ctypes.byref(place), *words))
-            self._text.limit.left()
-        return [column_of_room(it) for it, _ in columns]
+        count = self._counted(self._library.arc_count(self._handle, form))
+        return self._copied(functools.partial(self._library.next, self._handle, form), count, 5, self._width)
 
     def items(self) -> list[tuple[int, int]]:
         """Returns the first two numbers of what a graph has beside its arcs."""
@@ -207,15 +174,18 @@ class Instance:
 
     def _items(self, width: int) -> list[Any]:
         """Returns the first columns of the items, which have three numbers each."""
-        count, place = self._item_count, Place()
-        room = min(count, max(ROOM, count // 4 + 1))
-        columns, (some, at) = [room_for(count)[0] for _ in range(width)], room_for(3 * room)
-        for done in range(0, count, max(1, room)):
-            more = self._counted(self._library.items(self._handle, ctypes.byref(place), at, min(room, count - done)))
+        return self._copied(functools.partial(self._library.items, self._handle), self._item_count, 3, width)
+
+    def _copied(self, call: Any, count: int, numbers: int, width: int) -> list[Any]:
+        """Returns the first columns of what a call copies from place to place, each with so many numbers."""
+        columns, place, room = [room_for(count) for _ in range(width)], Place(), room_for(numbers * ROOM)
+        at, some = room.buffer_info()[0], memoryview(room)
+        for done in range(0, count, ROOM):
+            more = self._counted(call(ctypes.byref(place), at, min(ROOM, count - done)))
             for number, it in enumerate(columns):
-                it[done : done + more] = some[number : 3 * more : 3]
+                memoryview(it)[done : done + more] = some[number : numbers * more : numbers]
             self._text.limit.left()
-        return [column_of_room(it) for it in columns]
+        return [column(it) for it in columns]
 
     def _counted(self, found: Any) -> int:
         """Returns the count of a call. Raises an error if it has another code than that of success."""
@@ -223,39 +193,108 @@ class Instance:
             raise error_of(Status(found.code), self._text)
         return int(found.count)
 
+    def checksum(self, form: int) -> str:
+        """Returns the SHA-256 checksum of the canonical text in a form."""
+        library, found, text = self._library, hashlib.sha256(), Handle()
+        lease = Lease(lambda: library.free(ctypes.byref(text)))
+        try:
+            make = functools.partial(library.canon, self._handle, form, ctypes.byref(text))
+            status = self._text.limit.during(make, self._lease, lease)
+            if status.code != FINE:
+                raise error_of(status, self._text)
+            at, room = 0, ctypes.create_string_buffer(BYTES)
+            while more := library.text(ctypes.byref(text), at, room, BYTES).count:
+                self._text.limit.left()
+                found.update(ctypes.string_at(room, more))
+                at += more
+        finally:
+            lease.end()
+        return found.hexdigest()
 
-def room_for(size: int) -> tuple[Any, int]:
-    """Returns an array of so many numbers, and its address."""
-    np = numpy_here()
-    if np is None:
-        numbers = array("q", [0]) * size
-        return numbers, numbers.buffer_info()[0]
-    room = np.empty(size, np.int64)
-    return room, room.ctypes.data
+    def first_difference(self, right: Held) -> Same | AnyDifference:
+        """Returns where this instance and another one first differ."""
+        compare = functools.partial(self._library.compare, self._handle, right._handle)
+        found = self._text.limit.during(compare, self._lease, right._lease)
+        what = WHAT[found.what]
+        if what == "same":
+            return Same()
+        one, other = number_of(found.left), number_of(found.right)
+        if what == "kind":
+            made = Difference(what, KINDS[one][0], KINDS[other][0])
+        elif what == "pair":
+            amount = found.amount if self.kind == "min" else None
+            made = Difference(OF_PAIR[self.kind], one, other, pair=(found.at, found.to), amount=amount)
+        else:
+            node = found.at if what in ("supply", "point") else None
+            made = Difference(what, one, other, node=node, place=found.index if what == "item" else None)
+        return cast(AnyDifference, made)
+
+    def check_fit(self, companion: Held) -> None:
+        """Raises `Refused` if a companion does not fit this graph."""
+        found, text = self._library.fits(self._handle, companion._handle), companion._text
+        if found.code != FINE:
+            node = found.node if found.code == NOT_IN_GRAPH else None
+            raise with_cause(Refused(text.name, None, found.code, REFUSALS[found.code][0], node), text)
 
 
-def column_of_room(room: Any) -> Any:
-    """Returns the column of an array that `room_for` returned."""
-    return column(room) if isinstance(room, array) else read_only(room)
+def number_of(value: Any) -> Any:
+    """Returns the number of a value, or None if there is none."""
+    return (value.high << 64) + value.low if value.known else None
+
+
+def room_for(size: int) -> array[int]:
+    """Returns room for so many numbers."""
+    return array("q", [0]) * size
+
+
+class LinesRead:
+    """Reads the arc lines of a text by the library, which has taken its pieces before."""
+
+    def __init__(self, library: Library) -> None:
+        self._library, self._handle = library, Handle()
+        self._columns = [array("q") for _ in range(6)]
+        self._room = room_for(6 * ROOM)
+        if library.lines_begin(ctypes.byref(self._handle)).code != FINE:
+            raise MemoryError
+
+    def take(self, piece: bytes) -> None:
+        """Reads the next piece."""
+        address, done = ctypes.cast(ctypes.c_char_p(piece), ADDRESS).value or 0, 0
+        handle, to, some = ctypes.byref(self._handle), self._room.buffer_info()[0], memoryview(self._room)
+        while done < len(piece):
+            given = self._library.lines(handle, address + done, len(piece) - done, to, ROOM)
+            # A line that is refused by itself was refused before.
+            if given.code != FINE:
+                break
+            done += given.used
+            for number, it in enumerate(self._columns):
+                it.frombytes(some[number : 6 * given.count : 6].tobytes())
+
+    def end(self) -> list[Any]:
+        """Ends the text, and returns the columns of its arc lines."""
+        self.take(b"\n")
+        return [column(it) for it in self._columns]
+
+    def free(self) -> None:
+        """Frees the reader."""
+        self._library.free(ctypes.byref(self._handle))
 
 
 @contextlib.contextmanager
-def instance_of(library: Library, text: Text, form: int) -> Iterator[Instance]:
-    """Reads a text, and frees its instance at the end."""
+def held(library: Library, text: Text, lines: LinesRead | None = None) -> Iterator[Held]:
+    """Reads a text, and its arc lines if they are wanted, and frees its instance at the end."""
     handle = Handle()
     address = ctypes.byref(handle)
     lease = Lease(lambda: library.free(address))
     try:
         status, failed = library.begin(address), None
         if status.code == FINE:
-            status = fed(library, address, text)
+            status = fed(library, address, text, lines)
         if status.code == FINE:
             status = text.limit.during(functools.partial(library.finish, address), lease)
         if status.code == FINE:
             text.limit.left()
-            found = Instance(library, address, text, form)
-            found.lease = lease
-            yield found
+            yield Held(library, address, text, lease)
         else:
             failed = error_of(status, text)
     finally:
@@ -264,7 +303,7 @@ def instance_of(library: Library, text: Text, form: int) -> Iterator[Instance]:
         raise failed
 
 
-def fed(library: Library, address: Any, text: Text) -> Any:
+def fed(library: Library, address: Any, text: Text, lines: LinesRead | None) -> Any:
     """Feeds a text to a reader, to its end or to its first fault, and returns the status of the last piece. A
     compressed file is read to its end, since only the end tells whether its lines are right."""
     status, size = Status(), 0
@@ -276,6 +315,8 @@ def fed(library: Library, address: Any, text: Text) -> Any:
             raise Endless(text.name)
         if status.code == FINE:
             status = library.feed(address, piece, len(piece))
+            if lines and status.code == FINE:
+                lines.take(piece)
         if status.code != FINE and not text.is_compressed:
             break
     text.stay_same()

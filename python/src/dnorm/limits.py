@@ -11,6 +11,7 @@ import subprocess
 import threading
 import time
 from collections.abc import Callable, Iterator
+from concurrent.futures import ThreadPoolExecutor
 from typing import Any, BinaryIO, TypeVar
 
 from .errors import Memory, TimedOut
@@ -130,32 +131,18 @@ def started(thread: threading.Thread, name: str) -> None:
 def at_once(one: Callable[[], Result], other: Callable[[], Other], end: Callable[[], None]) -> tuple[Result, Other]:
     """Returns what two calls return, the second of which a thread makes meanwhile. Raises what the first one raises, if
     it does, and else what the second one does. `end` makes the second one end soon."""
-    found: list[Other] = []
-    errors: list[BaseException] = []
-
-    def run() -> None:
+    # What the thread reads must not be closed before it ends, for which the pool waits.
+    with ThreadPoolExecutor(1) as pool:
         try:
-            found.append(other())
-        except BaseException as error:
-            errors.append(error)
-
-    thread = threading.Thread(target=run, daemon=True)
-    try:
-        thread.start()
-    except RuntimeError:
-        # The system lets no more threads start.
-        return one(), other()
-    try:
-        result = one()
-        thread.join()
-    except BaseException:
-        # What the thread reads must not be closed before it ends, also where a signal ends the wait for it.
-        end()
-        thread.join()
-        raise
-    for error in errors:
-        raise error
-    return result, found[0]
+            later = pool.submit(other)
+        except RuntimeError:
+            # The system lets no more threads start.
+            return one(), other()
+        try:
+            return one(), later.result()
+        except BaseException:
+            end()
+            raise
 
 
 class Timed:

@@ -21,25 +21,14 @@ def from_networkx(kind: Literal["sp"], graph: Any, *, weight: Weight = ...) -> S
 
 @overload
 def from_networkx(
-    kind: Literal["max"],
-    graph: Any,
-    *,
-    capacity: str = ...,
-    source: Optional[int] = ...,
-    sink: Optional[int] = ...,
+    kind: Literal["max"], graph: Any, *, capacity: str = ..., source: Optional[int] = ..., sink: Optional[int] = ...
 ) -> Max:
     ...
 
 
 @overload
 def from_networkx(
-    kind: Literal["min"],
-    graph: Any,
-    *,
-    weight: Weight = ...,
-    capacity: str = ...,
-    low: str = ...,
-    demand: str = ...,
+    kind: Literal["min"], graph: Any, *, weight: Weight = ..., capacity: str = ..., low: str = ..., demand: str = ...
 ) -> Min:
     ...
 

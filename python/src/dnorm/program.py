@@ -3,7 +3,6 @@
 from __future__ import annotations
 
 import contextlib
-import fcntl
 import os
 import re
 import shlex
@@ -12,7 +11,7 @@ import subprocess
 import sysconfig
 import threading
 from collections.abc import Callable, Iterator, Sequence
-from typing import IO, Any, Union
+from typing import Any, Union
 
 from .compressed import SIZE
 from .errors import DnormError, Endless, Killed, Memory, NoProgram, Read, Refused, Unexpected, Write
@@ -26,15 +25,12 @@ Program = Union[str, os.PathLike[str], None]
 VERSION = re.compile(rb"dnorm (\S+)\n")
 # The line on standard error of a run that failed, by `dnorm help`. Texts have the names that `run` gives them.
 LINE = re.compile(
-    r"(?P<name>.+?)(?::(?P<place>\d+|end))?: (?P<number>\d+) (?P<word>\w+)(?: (?P<node>\d+))?\n",
-    re.ASCII,
+    r"(?P<name>.+?)(?::(?P<place>\d+|end))?: (?P<number>\d+) (?P<word>\w+)(?: (?P<node>\d+))?\n", re.ASCII
 )
 # Whether the line of a refusal has a place and a node. The refusals below 30 have a place.
 PARTS = {34: (False, False), 35: (False, True), 36: (False, False)}
 # The version that each program has printed, by the words of its command.
 versions: dict[tuple[str, ...], str] = {}
-# The bytes that a pipe of the program's output holds, if the system lets it.
-WIDTH = 1 << 17
 # Why no program starts after Children.stop.
 STOPPED = "all runs were stopped"
 # Where the page on the commands and calls is, from here: in a wheel, in a clone or an archive, and where `./install`
@@ -259,20 +255,9 @@ def talk(process: subprocess.Popen[bytes], sources: Sequence[Source], sink: Sink
         if it.failure:
             break
     out, err = process.stdout, process.stderr
-    size = widened(out) if out else 0
-    while out and (piece := out.read(size)):
+    while out and (piece := out.read(SIZE)):
         sink.take(piece)
     return err.read() if err else b""
-
-
-def widened(pipe: IO[bytes]) -> int:
-    """Makes a pipe so wide that its two sides rarely wait for each other, and returns how many bytes it has at once."""
-    # Linux has this request, and Python knows it from 3.10 on.
-    request = getattr(fcntl, "F_SETPIPE_SZ", None)
-    with contextlib.suppress(OSError):
-        if request is not None:
-            return fcntl.fcntl(pipe.fileno(), request, WIDTH)
-    return SIZE
 
 
 def status_of(process: subprocess.Popen[bytes], name: str) -> int:

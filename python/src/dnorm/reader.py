@@ -5,17 +5,17 @@ from __future__ import annotations
 import contextlib
 import re
 from array import array
-from typing import Any, Optional, Union
+from typing import Any, Literal, Optional, Union, overload
 
 from .answers import Form
 from .calls import canon_into, check_form
-from .columns import Growing, Own
+from .columns import Own, column
 from .errors import Unexpected
 from .files import File, Sink, Text, enough_memory, name_of
 from .instances import COUNTED, PROBLEM, AnyInstance, Co, Max, Min, P2p, Sp, Ss
-from .library import Instance as Held
-from .library import instance_of, library_of
+from .library import Held, Library, LinesRead, held, library_of
 from .limits import Limit
+from .lines import ArcLines, LinesOfText
 from .program import Program, unexpected
 
 
@@ -28,7 +28,7 @@ class Reader:
         self.nodes = self.declared = self.counted = 0
         self.flows: dict[int, int] = {}
         self.terminals: dict[bytes, int] = {}
-        self.columns: list[Growing] = []
+        self.columns: list[array[int]] = []
         self._head = self._rest = b""
 
     def take(self, piece: bytes) -> None:
@@ -52,8 +52,7 @@ class Reader:
         is_whole = self.kind and self.counted == self.declared and not self._rest
         if not is_whole or self.kind == "max" and set(self.terminals) != {b"s", b"t"}:
             raise self._unexpected(self._rest)
-        columns = [it.column() for it in self.columns]
-        return instance(self.kind, self.nodes, self.flows, self.terminals, columns)
+        return instance(self.kind, self.nodes, self.flows, self.terminals, [column(it) for it in self.columns])
 
     def _problem(self, text: bytes) -> bytes:
         """Reads the problem line, and returns the other lines."""
@@ -61,7 +60,7 @@ class Reader:
         if not found:
             raise ValueError(text)
         self.kind, self.nodes, self.declared = (found[1] or found[3]).decode(), int(found[2] or 0), int(found[4])
-        self.columns = [Growing() for _ in range(COUNTED[self.kind][1])]
+        self.columns = [array("q") for _ in range(COUNTED[self.kind][1])]
         self._head = found[0]
         return text[found.end() :]
 
@@ -84,8 +83,8 @@ class Reader:
         """Reads counted lines, all at once."""
         found = self._numbers(text)
         self.counted += len(found[0])
-        for column, numbers in zip(self.columns, found):
-            column.extend(numbers)
+        for it, numbers in zip(self.columns, found):
+            it.extend(numbers)
 
     def _numbers(self, text: bytes) -> list[Any]:
         """Returns the numbers of counted lines, those at each place of a line in an array."""
@@ -109,26 +108,61 @@ class Reader:
         return unexpected(self.name, 0, next(bad, self._head).decode("ascii", "backslashreplace"))
 
 
-def read(file: File, form: Form = 1, *, program: Program = None, timeout: Optional[float] = None) -> AnyInstance:
+@overload
+def read(
+    file: File,
+    form: Form = 1,
+    *,
+    lines: Literal[False] = False,
+    program: Program = None,
+    timeout: Optional[float] = None,
+) -> AnyInstance:
+    ...
+
+
+@overload
+def read(
+    file: File, form: Form = 1, *, lines: Literal[True], program: Program = None, timeout: Optional[float] = None
+) -> tuple[AnyInstance, ArcLines]:
+    ...
+
+
+def read(
+    file: File, form: Form = 1, *, lines: bool = False, program: Program = None, timeout: Optional[float] = None
+) -> Union[AnyInstance, tuple[AnyInstance, ArcLines]]:
     """Returns the instance that a text poses: an `Sp`, `Max`, `Min`, `Ss`, `P2p` or `Co`. `form` is 1 or 2, and matters
     only for `Min`. The library for C reads it where `find_library` finds it, and the program by its canonical text
-    elsewhere."""
+    elsewhere. With `lines`, returns the instance and the arc lines of the text, which is read once."""
     check_form(form)
     limit, library = Limit(timeout, name_of(file)), library_of(program)
     with enough_memory(limit.name):
         if library:
-            with contextlib.ExitStack() as stack:
-                return instance_by(stack.enter_context(instance_of(library, Text(file, stack, limit), int(form))))
-        reader = Reader(limit.name)
-        canon_into(Sink("out", reader.take), file, form, program, limit)
-        return reader.end()
+            return read_by(library, file, int(form), lines, limit)
+        reader, of_text = Reader(limit.name), LinesOfText()
+        watch = of_text.take if lines else None
+        canon_into(Sink("out", reader.take), file, form, program, limit, watch)
+        found = reader.end()
+        return (found, of_text.end()) if lines else found
 
 
-def instance_by(found: Held) -> AnyInstance:
+def read_by(
+    library: Library, file: File, form: int, lines: bool, limit: Limit
+) -> Union[AnyInstance, tuple[AnyInstance, ArcLines]]:
+    """Returns what `read` does, by a library."""
+    reader = LinesRead(library) if lines else None
+    with contextlib.ExitStack() as stack:
+        if reader:
+            stack.callback(reader.free)
+        found = instance_by(stack.enter_context(held(library, Text(file, stack, limit), reader)), form)
+        columns = reader.end() if reader else []
+    return (found, ArcLines(found.kind, *columns)) if reader else found
+
+
+def instance_by(found: Held, form: int) -> AnyInstance:
     """Returns the instance that the library has read."""
     flows = dict(found.items()) if found.kind == "min" else {}
     terminals = dict(zip((b"s", b"t"), found.items()[0])) if found.kind == "max" else {}
-    return instance(found.kind, found.nodes, flows, terminals, found.columns())
+    return instance(found.kind, found.nodes, flows, terminals, found.columns(form))
 
 
 def instance(

@@ -1,4 +1,4 @@
-"""The number, name and sentence of each refusal in dnorm help. `tools/refusals --write` makes this file."""
+"""The number, name and sentence of each refusal in dnorm help. `tools/lists --write` writes them."""
 
 REFUSALS = {
     1: ("BadLine", "The first word is none of p, n, a, s, q and v."),

@@ -4,18 +4,15 @@ from __future__ import annotations
 
 import contextlib
 import dataclasses
-import io
 import os
 from collections.abc import Iterator
 from typing import Optional, Union
 
 from .answers import AnyDifference, Same, compared, table
 from .calls import answer, canon_into
-from .files import File, Sink, Text, enough_memory, name_of
-from .handles import first_difference
+from .files import File, Pieces, Sink, Text, enough_memory, name_of
 from .instances import AnyInstance, Graph, Instance, Max, Min, whole
-from .library import GRAPHS, Library, instance_of, library_of
-from .library import Instance as Held
+from .library import GRAPHS, Held, Library, held, library_of
 from .limits import Limit, at_once
 from .pairs import Key, PairDifference, paired
 from .program import Program
@@ -56,12 +53,7 @@ class Differences:
 
 
 def differences(
-    left: File,
-    right: File,
-    limit: Optional[int] = None,
-    *,
-    program: Program = None,
-    timeout: Optional[float] = None,
+    left: File, right: File, limit: Optional[int] = None, *, program: Program = None, timeout: Optional[float] = None
 ) -> Differences:
     """Returns all differences between two texts, and the arcs of the first differing pairs, at most `limit` of them. It
     keeps both canonical texts in memory."""
@@ -78,17 +70,16 @@ def by_library(library: Library, files: tuple[File, File], limit: Optional[int],
     """Returns how two texts differ, by the library, which reads each of them once."""
     with contextlib.ExitStack() as later, contextlib.ExitStack() as sooner:
         left, right = both_read(library, files, (sooner, later), time)
-        first, kind = first_difference(library, left, right, time), left.kind
+        first, kind = left.first_difference(right), left.kind
         if first:
-            lines, pairs = left.sizes
-            found = Differences(first, kind, both=pairs if kind in GRAPHS else lines)
+            found = Differences(first, kind, both=left.pairs if kind in GRAPHS else left.lines)
         elif kind != right.kind:
             found = Differences(first)
         else:
-            one = instance_by(left)
+            one = instance_by(left, 2)
             # The library keeps the left text no longer than it is needed.
             sooner.close()
-            other = instance_by(right)
+            other = instance_by(right, 2)
             later.close()
             found = summary(first, one, other, limit, time)
     return found
@@ -101,25 +92,13 @@ def both_read(
     the other, as a pipe of the right one may be written only later."""
 
     def read(file: File, stack: contextlib.ExitStack) -> Held:
-        return stack.enter_context(instance_of(library, Text(file, stack, time), 2))
+        return stack.enter_context(held(library, Text(file, stack, time)))
 
     if not all(isinstance(it, (str, os.PathLike)) and os.path.isfile(it) for it in files):
         left, right = (read(*it) for it in zip(files, stacks))
         return left, right
     text = Text(files[1], stacks[1], time)
-    return at_once(
-        lambda: read(files[0], stacks[0]),
-        lambda: stacks[1].enter_context(instance_of(library, text, 2)),
-        text.stop,
-    )
-
-
-class Canonical(io.BytesIO):
-    """A canonical text that keeps the name of its file."""
-
-    def __init__(self, name: str, text: bytes) -> None:
-        super().__init__(text)
-        self.name = name
+    return at_once(lambda: read(files[0], stacks[0]), lambda: stacks[1].enter_context(held(library, text)), text.stop)
 
 
 def by_program(program: Program, files: tuple[File, File], limit: Optional[int], time: Limit) -> Differences:
@@ -130,7 +109,7 @@ def by_program(program: Program, files: tuple[File, File], limit: Optional[int],
     return Differences(first) if one.kind != other.kind else summary(first, one, other, limit, time)
 
 
-def kept(program: Program, file: File, limit: Limit) -> tuple[Canonical, AnyInstance]:
+def kept(program: Program, file: File, limit: Limit) -> tuple[Pieces, AnyInstance]:
     """Returns the canonical text of a text, by the program, and its instance."""
     reader = Reader(name_of(file))
     parts: list[bytes] = []
@@ -140,27 +119,15 @@ def kept(program: Program, file: File, limit: Limit) -> tuple[Canonical, AnyInst
         parts.append(piece)
 
     canon_into(Sink("out", take), file, 2, program, limit)
-    return Canonical(reader.name, b"".join(parts)), reader.end()
+    return Pieces(reader.name, parts), reader.end()
 
 
 def summary(
     first: Same | AnyDifference, left: Instance, right: Instance, limit: int | None, time: Limit
 ) -> Differences:
     """Returns the differences between two instances of one kind."""
-    found = paired(left, right, limit, time)
-    return Differences(
-        first,
-        left.kind,
-        only_left=found.only_left,
-        only_right=found.only_right,
-        both=found.both,
-        different=found.different,
-        reversed=found.reversed,
-        supplies=differing_supplies(left, right),
-        fields=found.fields,
-        values=tuple(differing_values(left, right)),
-        pairs=found.first,
-    )
+    supplies, values = differing_supplies(left, right), tuple(differing_values(left, right))
+    return Differences(first, left.kind, supplies=supplies, values=values, **paired(left, right, limit, time))
 
 
 def differing_supplies(left: Instance, right: Instance) -> int:

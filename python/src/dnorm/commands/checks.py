@@ -13,11 +13,10 @@ from typing import Optional
 from ..calls import check
 from ..errors import Read, Refused
 from ..files import Text
-from ..handles import canonical_sum, refusal_of_fit
-from ..library import Instance, Library, instance_of
+from ..library import Held, Library, held
 from ..limits import Limit
 from ..names import COMPANIONS, KINDS, parts_of
-from ..program import Program, with_cause
+from ..program import Program
 
 # The ends of the names of graphs that have companions.
 WITH_COMPANIONS = (".gr", ".sp")
@@ -27,20 +26,13 @@ WITH_COMPANIONS = (".gr", ".sp")
 class Accepted:
     """What a check of an accepted file found: its `kind`; the `forms` in which it is canonical, if these were asked
     for; which graphs of its name a companion `fits`, if that was checked, and which of them are `not_accepted`; the
-    kind that the ending of its name is `named` for, if that is another one; and whether the file was not read, since it
-    `is_unchanged` from when it was accepted."""
+    kind that the ending of its name is `named` for, if that is another one."""
 
     kind: str
     forms: Optional[tuple[int, ...]] = None
     fits: Optional[tuple[str, ...]] = None
     not_accepted: tuple[str, ...] = ()
     named: Optional[str] = None
-    is_unchanged: bool = False
-
-    @property
-    def status(self) -> str:
-        """The word for the file."""
-        return "unchanged" if self.is_unchanged else "accepted"
 
     @property
     def is_alone(self) -> bool:
@@ -105,50 +97,42 @@ class SummedText(Text):
         return self._sum.hexdigest() if self._is_canonical else None
 
 
-def forms_of(library: Library, held: Instance, text: SummedText) -> tuple[int, ...]:
+def forms_of(it: Held, text: SummedText) -> tuple[int, ...]:
     """Returns the forms in which a text is canonical that the library has read."""
 
     def is_canonical(form: int) -> bool:
         try:
-            return text.checksum == canonical_sum(library, held, form, text.limit)
+            return text.checksum == it.checksum(form)
         except Refused:
             # The canonical text has too many lines.
             return False
 
     if text.checksum is None:
         return ()
-    if held.kind == "min":
+    if it.kind == "min":
         return tuple(filter(is_canonical, (1, 2)))
     # Both forms are the same.
     return (1, 2) if is_canonical(1) else ()
 
 
+@dataclass(frozen=True)
 class Checker:
     """Checks files: by this library, or else by the program. If they are asked for, it says the forms in which a text
-    is canonical. With partners, companions are checked beside their graphs. Of other files, those whose kind is known
-    are not read. If it is strict, a file with a remark has an error."""
+    is canonical. With partners, companions are checked beside their graphs. If it is strict, a file with a remark has
+    an error."""
 
-    def __init__(
-        self,
-        program: Program,
-        timeout: float | None,
-        library: Library | None,
-        *,
-        partners: Partners | None = None,
-        known_kind: Callable[[str], str] = lambda _: "",
-        has_forms: bool = False,
-        is_strict: bool = False,
-    ) -> None:
-        self.program, self.timeout, self.partners, self.is_strict = program, timeout, partners, is_strict
-        self.library, self.known_kind, self.has_forms = library, known_kind, has_forms
+    program: Program
+    timeout: Optional[float]
+    library: Optional[Library]
+    partners: Optional[Partners]
+    has_forms: bool
+    is_strict: bool
 
     def check(self, name: str) -> Accepted:
         """Checks a file."""
         ending = parts_of(name)[1]
         graphs = self.partners.graphs_of(name) if self.partners and ending in COMPANIONS else None
-        if graphs is None and (kind := self.known_kind(name)):
-            found = Accepted(kind, is_unchanged=True)
-        elif self.library:
+        if self.library:
             found = self._by_library(self.library, name, graphs)
         else:
             found = self._by_program(name, graphs)
@@ -156,23 +140,20 @@ class Checker:
         if expected != found.kind:
             found = replace(found, named=expected)
         if self.is_strict and found.remarks:
-            raise Read(name, f"{found.status} {found.kind}, {', '.join(found.remarks)}")
+            raise Read(name, f"accepted {found.kind}, {', '.join(found.remarks)}")
         return found
 
     def _by_library(self, library: Library, name: str, graphs: Sequence[str] | None) -> Accepted:
         limit = Limit(self.timeout, name)
         with contextlib.ExitStack() as stack:
             text = SummedText(name, stack, limit) if self.has_forms else Text(name, stack, limit)
-            companion = stack.enter_context(instance_of(library, text, 1))
+            companion = stack.enter_context(held(library, text))
 
             def fit(graph: str) -> None:
                 with contextlib.ExitStack() as inner:
-                    other = inner.enter_context(instance_of(library, Text(graph, inner, limit), 1))
-                    error = refusal_of_fit(library, other, companion, name)
-                if error:
-                    raise with_cause(error, text)
+                    inner.enter_context(held(library, Text(graph, inner, limit))).check_fit(companion)
 
-            forms = forms_of(library, companion, text) if isinstance(text, SummedText) else None
+            forms = forms_of(companion, text) if isinstance(text, SummedText) else None
             found = Accepted(companion.kind, forms)
             if graphs is not None:
                 found = beside(found, name, graphs, fit)

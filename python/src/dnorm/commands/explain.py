@@ -1,4 +1,4 @@
-"""Explains what the program prints: `dnorm-files explain`, which dnorm-explain runs."""
+"""Explains what the program prints: `dnorm-explain`."""
 
 from __future__ import annotations
 
@@ -19,14 +19,19 @@ from ..program import command as command_of
 from ..refusals import REFUSALS
 
 USAGE = """\
-Prints what dnorm has printed, and below each refusal of a file what shows its cause: the line that it names, NODES, how
-many lines are declared and found, what the first bytes mean, and a command that mends the file.
+Prints what dnorm has printed, and below each refusal of a file what shows its cause: the line that it names; what it
+depends on, such as NODES, how many lines are declared and found, or where a repeated node came first; whether the file
+is compressed, a pointer of Git LFS or in another encoding; and a command that mends the file. Below 31 it prints why
+the file cannot be read, and below a refusal of standard input nothing.
 
     dnorm check FILE 2>&1 | dnorm-explain
     dnorm-explain WORDS..
 
-The second form runs dnorm with these words, and also explains a command line that is refused. The status is that of
-dnorm, as its lines tell it; of several runs, the greatest one.
+The second form runs dnorm with these words, and also explains a command line that is refused. dnorm-explain reads the
+files that the refusals name, so it runs in the folder of dnorm.
+
+The status is that of dnorm, as its lines tell it; of several runs, the greatest one; 3 if there are no words and
+standard input is a terminal.
 """
 # A name may have LF.
 REFUSED_LINE = re.compile(r"(.*):([0-9]+|end): ([12]?[0-9]) [A-Za-z]+", re.S)
@@ -34,12 +39,8 @@ OTHER_LINE = re.compile(r"(.*): 3([0-6]) [A-Za-z]+(?: ([0-9]+))?", re.S)
 WRONG = ("dnorm: bad command line", "dnorm: standard input named twice")
 # The options of each command with the number of its files, and the values that options take.
 COMMANDS: dict[str, tuple[list[str], int]] = {
-    "canon": (["--form"], 1),
-    "check": (["--with"], 1),
-    "compare": ([], 2),
-    "show": ([], 1),
-    "help": ([], 0),
-}
+    "canon": (["--form"], 1), "check": (["--with"], 1), "compare": ([], 2), "show": ([], 1), "help": ([], 0),
+}  # fmt: skip
 VALUES: dict[str, tuple[str, ...]] = {"--form": ("1", "2"), "--with": ()}
 # What other programs call these commands.
 OTHER_NAMES = {"diff": "compare", "cmp": "compare", "validate": "check", "verify": "check", "lint": "check"}
@@ -206,12 +207,13 @@ def unknown_command(word: str) -> str:
     return f"dnorm has no command {word}; its commands are {', '.join(COMMANDS)}"
 
 
-def explained(words: Sequence[str]) -> int:
-    """Explains, and returns the status. A failure is a line on standard error; a signal ends this like other tools."""
+def main() -> int:
+    """Runs the command, and returns the status. A failure is a line on standard error; a signal ends this like other
+    tools."""
     for it in (signal.SIGINT, signal.SIGPIPE):
         signal.signal(it, signal.SIG_DFL)
     try:
-        return explain(words)
+        return explain(sys.argv[1:])
     except (DnormError, OSError) as error:
         failure = error if isinstance(error, DnormError) else Write("out", reason_of(error))
         with contextlib.suppress(OSError):

@@ -4,11 +4,12 @@ from __future__ import annotations
 
 import os
 import threading
-import time
 from collections.abc import Callable, Iterable, Sequence
 from fnmatch import fnmatchcase
-from typing import Generic, NamedTuple, TypeVar, cast
+from queue import Empty, SimpleQueue
+from typing import Generic, NamedTuple, TypeVar
 
+from ..console import heeding_signals
 from ..errors import DnormError, Memory, Read
 from ..files import reason_of
 from ..names import is_text, misnamed_text
@@ -17,11 +18,9 @@ from ..program import children
 # What version control keeps for itself: branches can have names like texts. CVS has a list in each of its folders.
 HIDDEN, CVS, CVS_LIST = {".git", ".hg", ".svn", ".bzr", ".jj", "_darcs"}, "CVS", "Entries"
 
-# The longest wait of a thread, in seconds, and how many tasks begin before the result of the first one is taken.
-PAUSE, MOST = 0.1, 10_000
-# The seconds of a result, on the average, and the wait for one result, after which another thread is started. The wait
-# is also how often results are looked for: to be woken for each takes longer than to read a small file.
-SOON, LONG = 0.001, 0.02
+# How many tasks begin before the result of the first one is taken, and the longest wait, in seconds: a signal that
+# comes just before a wait does not end it.
+AHEAD, PAUSE = 1000, 0.1
 
 Item = TypeVar("Item")
 Result = TypeVar("Result")
@@ -122,106 +121,63 @@ def outcome(task: Callable[[], Result], name: str) -> Result | DnormError:
 
 
 class Workers(Generic[Item, Result]):
-    """Threads that run a task on each of these items, at most `jobs` of them. They do not run ahead of the result that
-    is waited for by more than MOST items. Nothing waits for their end, since a thread may wait for a file without end.
+    """Threads that run a task on each of these items, at most `jobs` of them. Nothing waits for their end, since a
+    thread may wait for a file without end. No task returns an exception."""
 
-    The first thread starts at once, and others while results are slow. They end where results are quick: for small
-    files, threads would only wait for each other. `idle` is called again and again during a long wait."""
-
-    def __init__(
-        self, task: Callable[[Item], Result], items: Sequence[Item], jobs: int, idle: Callable[[], None] = lambda: None
-    ) -> None:
-        self._task, self._items, self._jobs, self._idle = task, items, min(jobs, len(items)), idle
-        self._changed = threading.Condition()
-        self._begun = self._wanted = self._threads = 0
+    def __init__(self, task: Callable[[Item], Result], items: Sequence[Item], jobs: int) -> None:
+        self._task, self._items, self._jobs = task, items, jobs
+        self._begun = self._threads = 0
         self._is_stopped = False
-        self._done: dict[int, tuple[Result | None, BaseException | None]] = {}
-        self._start = self._last_start = self._last_end = time.monotonic()
-        self._last_thread = 0
-        self._start_thread()
+        self._wanted: SimpleQueue[int] = SimpleQueue()
+        self._came: SimpleQueue[tuple[int, Result | BaseException]] = SimpleQueue()
+        self._done: dict[int, Result | BaseException] = {}
 
-    def _start_thread(self) -> None:
-        """Starts another thread. Where the system lets no more of them start, those that there are do all."""
-        with self._changed:
-            if self._threads >= self._jobs:
-                return
-            self._threads += 1
-            self._last_start = time.monotonic()
-        try:
-            threading.Thread(target=self._work, daemon=True).start()
-        except (RuntimeError, MemoryError):
-            with self._changed:
-                self._threads -= 1
+    def _begin(self) -> None:
+        """Begins the next item: in another thread while there may be more of them. Where the system lets no more start,
+        those that there are do all."""
+        self._wanted.put(self._begun)
+        self._begun += 1
+        if self._threads < self._jobs:
+            try:
+                with heeding_signals():
+                    threading.Thread(target=self._work, daemon=True).start()
+                self._threads += 1
+            except (RuntimeError, MemoryError):
                 self._jobs = self._threads
 
     def _work(self) -> None:
-        start = 0.0
-        while self._is_needed(start) and (at := self._next()) is not None:
-            start = time.monotonic()
-            self._do(at)
-
-    def _is_needed(self, start: float) -> bool:
-        """Whether a thread goes on whose last task began at this time. If that was quick, and another thread had a
-        result just before, it ends."""
-        thread, end = threading.get_ident(), time.monotonic()
-        with self._changed:
-            is_quick = end - start < SOON and end - self._last_end < SOON and self._last_thread != thread
-            self._last_end, self._last_thread = end, thread
-            is_needed = self._threads == 1 or not is_quick
-            self._threads -= not is_needed
-        return is_needed
-
-    def _next(self) -> int | None:
-        """Returns the place of the next item, or None if there is none."""
-        with self._changed:
-            while not self._is_stopped and self._begun < len(self._items):
-                if self._begun < self._wanted + MOST:
-                    self._begun += 1
-                    return self._begun - 1
-                self._changed.wait(PAUSE)
-            self._changed.notify_all()
-        return None
+        while not self._is_stopped:
+            self._do(self._wanted.get())
 
     def _do(self, at: int) -> None:
-        found: tuple[Result | None, BaseException | None]
         try:
-            found = self._task(self._items[at]), None
+            self._came.put((at, self._task(self._items[at])))
         except BaseException as error:
-            found = None, error
-        with self._changed:
-            self._done[at] = found
+            self._came.put((at, error))
 
-    def result(self, at: int) -> Result:
-        """Returns the result of this item, or raises what its task has raised."""
-        if not self._threads:
-            self._do(at)
-        else:
-            now = time.monotonic()
-            if now - self._start > LONG + at * SOON and now - self._last_start > LONG:
-                self._start_thread()
-        with self._changed:
-            self._wanted = at
-        # A signal that comes just before a wait does not end it, so no wait is long.
-        while not self._has_come(at):
-            self._start_thread()
-            self._idle()
-        found, error = self._done.pop(at)
-        if error:
-            raise error
-        return cast(Result, found)
-
-    def _has_come(self, at: int) -> bool:
-        """Waits for the result of this item, and returns whether it is there."""
-        with self._changed:
-            if at not in self._done:
-                self._changed.wait(LONG)
-            return at in self._done
+    def result(self, at: int, idle: Callable[[], None] = lambda: None) -> Result:
+        """Returns the result of this item, or raises what its task has raised. Results are asked for in the order of
+        the items. `idle` is called again and again during a long wait."""
+        while self._begun < min(at + AHEAD, len(self._items)):
+            self._begin()
+        while at not in self._done:
+            if not self._threads:
+                self._do(self._wanted.get())
+            try:
+                place, found = self._came.get(timeout=PAUSE)
+                self._done[place] = found
+            except Empty:
+                idle()
+        found = self._done.pop(at)
+        if isinstance(found, BaseException):
+            raise found
+        return found
 
     def stop(self) -> list[tuple[int, Result]]:
         """Kills the processes that run, and lets no thread begin another item. Returns the results that were not taken,
         with the places of their items."""
-        with self._changed:
-            self._is_stopped = True
-            rest = [(at, cast(Result, found)) for at, (found, error) in sorted(self._done.items()) if not error]
+        self._is_stopped = True
         children.stop()
-        return rest
+        while not self._came.empty():
+            self._done.update([self._came.get()])
+        return [(at, it) for at, it in sorted(self._done.items()) if not isinstance(it, BaseException)]

@@ -4,18 +4,15 @@ from __future__ import annotations
 
 import argparse
 import contextlib
-import importlib
-import importlib.util
 import os
 import signal
 import sys
 import traceback
 from collections.abc import Callable, Sequence
-from types import ModuleType
 from typing import Any, NoReturn
 
 from .. import __version__
-from ..console import SIGNALS, Console, Stopped, for_terminal, has_output, stop
+from ..console import SIGNALS, Console, Stopped, for_terminal, has_output, heed, number
 from ..errors import DnormError, Read, Refused, Write
 from ..files import failing
 from ..limits import LONGEST
@@ -33,24 +30,20 @@ exit statuses:
   3  the command line is refused
   4  a file cannot be read, a folder has no such file, or dnorm cannot be run
 The greatest one that applies counts.
+
+$DNORM names the program, or a command that runs it; $DNORM_LIBRARY the library, or is none for no library.
 """
 # Commands of the program, and what is an option here.
 OTHER_COMMANDS = {it: f"{it} is a command of the program: dnorm {it} FILE" for it in ("canon", "show")}
 OTHER_COMMANDS |= {it: f"{it} is an option here: --{it}" for it in ("help", "version")}
-FORMATS = ("text", "json", "github", "sarif")
-EACH = "by default one for each processor"
+FORMATS = ("text", "json", "github")
 TASKS = {
     "check": "Checks files, and prints a line for each: NAME: accepted KIND, or the refusal.",
     "manifest": "Prints the checksum of the canonical text of each file, or verifies such checksums.",
     "same": "Prints the names of files that pose the same problem, in groups.",
     "list": "Prints what each file contains: sizes, ranges and sums of its numbers, and its checksum.",
     "compare": "Prints the first difference between two files, how many pairs differ, and the first of these.",
-    "explain": "Prints what dnorm prints, and below each refusal what shows its cause.",
 }
-
-
-# Where the suite of the files that `./install` installs is, and that of a clone.
-PLACES = ("../../../conformance/run.py", "../../../../share/conformance/run.py")
 
 
 class Parser(argparse.ArgumentParser):
@@ -73,17 +66,23 @@ def parser() -> Parser:
         one.set_defaults(parser=one)
         if task == "compare":
             add_comparison(one)
-            add_runs(one)
-        elif task != "explain":
+        else:
             add_files(one, task)
             add_outputs(one, task)
-            one.add_argument("-j", "--jobs", type=int, metavar="N", help=f"files at the same time, {EACH}")
-            add_runs(one)
-    about = "Runs the conformance suite on a reader of these formats; 'conformance --help' describes it."
-    tasks.add_parser("conformance", help=about, add_help=False)
-    about = "Writes the canonical text of a graph that is larger than memory; 'parts --help' describes it."
-    tasks.add_parser("parts", help=about, add_help=False)
+            about = "files at the same time, by default one for each processor"
+            one.add_argument("-j", "--jobs", type=number(1), default=processors(), metavar="N", help=about)
+        one.add_argument("--timeout", type=seconds, metavar="SECONDS", help="a file that takes longer is a failure")
+        about = "the program, by default $DNORM, the one that pip installed, or dnorm on PATH"
+        one.add_argument("--program", metavar="PROGRAM", help=about)
     return top
+
+
+def seconds(word: str) -> float:
+    """Returns the number of seconds of an option."""
+    with contextlib.suppress(ValueError):
+        if 0 < float(word) <= LONGEST:
+            return float(word)
+    raise argparse.ArgumentTypeError(f"a number above 0, and at most {LONGEST}, is wanted, and not {word!r}")
 
 
 def add_files(one: argparse.ArgumentParser, task: str) -> None:
@@ -105,44 +104,42 @@ def add_files(one: argparse.ArgumentParser, task: str) -> None:
 def add_outputs(one: argparse.ArgumentParser, task: str) -> None:
     """Adds the arguments that say what a command prints."""
     add = one.add_argument
+    # Python's usage fails at a group without arguments.
+    alone: Callable[..., object] = add if task == "same" else one.add_mutually_exclusive_group().add_argument
     if task in ("check", "manifest"):
         add("-q", "--quiet", action="store_true", help="print no line for files without a fault")
-    add("--json", action="store_true", help="print JSON objects, one on a line, instead")
+    about = "print JSON objects, one on a line, instead"
     if task == "check":
-        about = "the lines for each file: as text, as JSON objects, or as annotations of GitHub; or a SARIF document"
-        add("--output-format", dest="format", choices=FORMATS, help=about)
+        alone("--json", dest="format", action="store_const", const="json", default="text", help=about)
+        about = "the lines for each file: as text, as JSON objects, or as annotations of GitHub"
+        alone("--output-format", dest="format", choices=FORMATS, default="text", help=about)
         add("--junit", metavar="FILE", help="also write a report for CI services into FILE")
-    if task == "list":
-        add("--csv", action="store_true", help="print a CSV table instead")
+        about = "check what git has staged and COMMIT has otherwise, by default the last one; print faults only"
+        add("--staged", nargs="?", const="", metavar="COMMIT", help=about)
+    elif task == "list":
+        alone("--json", action="store_true", help=about)
+        alone("--csv", action="store_true", help="print a CSV table instead")
+    else:
+        add("--json", action="store_true", help=about)
     if task in ("manifest", "list"):
         add("--form", type=int, choices=(1, 2), help="the canonical form, 1 by default")
     if task == "manifest":
         about = "verify the checksums in FILE instead, and name files of the paths that FILE does not list"
-        add("--verify", metavar="FILE", help=about)
-        add("--output", metavar="FILE", help="write into FILE, once everything is known")
+        alone("--verify", metavar="FILE", help=about)
+        alone("--output", metavar="FILE", help="write into FILE, once everything is known")
         about = "renew FILE, or make it, with sizes and times, and read only files that are new or were written"
-        add("--incremental", metavar="FILE", help=about)
-    if task == "check":
-        about = "read only files that are new or were written since 'manifest --incremental FILE'"
-        add("--incremental", metavar="FILE", help=about)
-        about = "check what git has staged and COMMIT has otherwise, by default the last one; print faults only"
-        add("--staged", nargs="?", const="", metavar="COMMIT", help=about)
+        alone("--incremental", metavar="FILE", help=about)
 
 
 def add_comparison(one: argparse.ArgumentParser) -> None:
     """Adds the arguments of `compare`."""
     one.add_argument("left", metavar="LEFT", help="a file, or - for standard input")
     one.add_argument("right", metavar="RIGHT", help="another file")
-    one.add_argument("-q", "--quiet", action="store_true", help="print nothing; the status tells")
-    one.add_argument("--json", action="store_true", help="print a JSON object instead")
-    one.add_argument("--limit", type=int, default=3, metavar="N", help="print so many differing pairs, by default 3")
-
-
-def add_runs(one: argparse.ArgumentParser) -> None:
-    """Adds the arguments that say how the program is run."""
-    one.add_argument("--timeout", type=float, metavar="SECONDS", help="a file that takes longer is a failure")
-    about = "the program, by default $DNORM, the one that pip installed, or dnorm on PATH"
-    one.add_argument("--program", metavar="PROGRAM", help=about)
+    alone = one.add_mutually_exclusive_group().add_argument
+    alone("-q", "--quiet", action="store_true", help="print nothing; the status tells")
+    alone("--json", action="store_true", help="print a JSON object instead")
+    about = "print so many differing pairs, by default 3"
+    one.add_argument("--limit", type=number(0), default=3, metavar="N", help=about)
 
 
 def parsed(words: Sequence[str]) -> argparse.Namespace:
@@ -153,47 +150,30 @@ def parsed(words: Sequence[str]) -> argparse.Namespace:
     error = found.parser.error
     if others:
         error(f"unrecognized arguments: {' '.join(others)}")
-    if found.timeout is not None and not 0 < found.timeout <= LONGEST:
-        error(f"--timeout is above 0, and at most {LONGEST} seconds")
     if "path" in found:
         check_files(found, error)
-    elif found.limit < 0:
-        error("--limit is at least 0")
     elif found.left == found.right == "-":
         error("standard input is named twice")
-    elif found.quiet and found.json:
-        error("--quiet goes without --json")
     return found
 
 
 def check_files(found: argparse.Namespace, error: Callable[[str], NoReturn]) -> None:
     """Completes the arguments of a command on many files."""
-    if found.jobs is not None and found.jobs < 1:
-        error("--jobs is at least 1")
     if "-" in found.path and found.files0_from == "-":
         error("standard input is named twice")
     has_paths = bool(found.path) or found.files0_from is not None
     is_staged = getattr(found, "staged", None) is not None
     if not has_paths and getattr(found, "verify", None) is None and not is_staged:
         error("at least one path is required")
-    if is_staged and (has_paths or found.incremental is not None or found.quiet):
-        error("--staged goes without paths, --incremental and --quiet")
-    if found.task == "check":
-        if found.json and found.format not in (None, "json"):
-            error("--json goes without another --output-format")
-        found.format = "json" if found.json else found.format or "text"
+    if is_staged and (has_paths or found.quiet):
+        error("--staged goes without paths and --quiet")
     if found.task == "manifest":
-        if found.verify is not None and (found.form or found.output is not None or found.incremental is not None):
-            error("--verify goes without --form, --output and --incremental")
-        if found.output is not None and found.incremental is not None:
-            error("--output goes without --incremental")
+        if found.verify is not None and found.form:
+            error("--verify goes without --form")
         if found.verify is None and found.quiet:
             error("--quiet goes with --verify")
         found.task = "manifest" if found.verify is None else "verify"
-    if found.task == "list" and found.json and found.csv:
-        error("--json goes without --csv")
     found.form = getattr(found, "form", None) or 1
-    found.jobs = found.jobs or processors()
     found.ending = found.ending or ENDINGS
 
 
@@ -226,51 +206,12 @@ def end_by(number: int, run: Run | None) -> None:
     os.kill(os.getpid(), number)
 
 
-def suite() -> ModuleType:
-    """Returns the module of the conformance suite, which wheels have in this package, and clones and `./install` beside
-    it."""
-    name, here = "dnorm.conformance", os.path.dirname(os.path.abspath(__file__))
-    for place in PLACES:
-        path = os.path.normpath(os.path.join(here, place))
-        spec = importlib.util.spec_from_file_location(name, path)
-        if os.path.isfile(path) and spec and spec.loader:
-            found = sys.modules[name] = importlib.util.module_from_spec(spec)
-            spec.loader.exec_module(found)
-            return found
-    return importlib.import_module(name)
-
-
-def by_other_module(task: str, words: Sequence[str]) -> int | None:
-    """Runs a command whose words another module reads, which is imported for it alone. Returns the exit status, or None
-    for any other command."""
-    if task == "explain":
-        # All words are those of the program.
-        from .explain import explained
-
-        return explained(words)
-    if task == "conformance":
-        status: int = suite().main(words)
-        return status
-    if task == "parts":
-        from ..parts import line
-
-        return line.main(words, line.Anywhere())
-    return None
-
-
 def main(words: Sequence[str] | None = None) -> int:
     """Runs a command, and returns the exit status."""
-    words = sys.argv[1:] if words is None else words
-    status = by_other_module(words[0], words[1:]) if words else None
-    if status is not None:
-        return status
     is_open = has_output()
-    found = parsed(words)
+    found = parsed(sys.argv[1:] if words is None else words)
     console, run = Console(), None
-    for it in SIGNALS:
-        # What is ignored, as by nohup, stays ignored.
-        if signal.getsignal(it) != signal.SIG_IGN:
-            signal.signal(it, stop)
+    heed()
     try:
         if not is_open:
             raise Write("out")
@@ -290,13 +231,3 @@ def main(words: Sequence[str] | None = None) -> int:
     except Exception:
         console.complain(traceback.format_exc())
         return FAILED
-
-
-def explain() -> int:
-    """Runs dnorm-explain of a wheel."""
-    return main(["explain", *sys.argv[1:]])
-
-
-def canon_in_parts() -> int:
-    """Runs canon-in-parts of a wheel."""
-    return main(["parts", *sys.argv[1:]])

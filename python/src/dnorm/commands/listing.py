@@ -6,23 +6,23 @@ import contextlib
 import csv
 import hashlib
 import io
-from collections.abc import Iterable, Iterator
+from collections.abc import Iterator
+from operator import mul
 from typing import Any, NamedTuple
 
 from ..calls import canon_into
 from ..causes import PROBLEM
 from ..columns import Column, least_and_greatest, numpy_here
 from ..files import Sink, Text, enough_memory
-from ..handles import canonical_sum
 from ..instances import AnyInstance, Co, Graph, Min
-from ..library import Library, instance_of
+from ..library import Library, held
 from ..limits import Limit
 from ..pairs import VALUES
 from ..program import Program
 from ..reader import Reader, instance_by
 
-# A graph with more nodes than so many for each arc has few nodes with arcs; and the lower half of a number of 64 bits.
-SPARSE, LOW = 10, (1 << 32) - 1
+# A graph with more nodes than so many for each arc has few nodes with arcs.
+SPARSE = 10
 # The numbers of bits that readers and solvers have for a number without its sign.
 BITS = (31, 32, 53)
 
@@ -75,10 +75,9 @@ def listed_by_library(name: str, form: int, library: Library, limit: Limit) -> L
     """Returns what a file contains, by the instance that the library has read."""
     with contextlib.ExitStack() as stack:
         text = Text(name, stack, limit)
-        held = stack.enter_context(instance_of(library, text, form))
-        found = canonical_sum(library, held, form, limit)
-        instance, (declared, _) = instance_by(held), held.sizes
-    return listed_as(name, text.size, instance, declared, found)
+        it = stack.enter_context(held(library, text))
+        checksum, instance = it.checksum(form), instance_by(it, form)
+    return listed_as(name, text.size, instance, it.lines, checksum)
 
 
 def listed_by_program(name: str, form: int, program: Program, limit: Limit) -> Listed:
@@ -133,7 +132,7 @@ def listed_as(name: str, size: int, it: AnyInstance, declared: int, checksum: st
         merged=declared - graph.pairs if graph else None,
         self_loops=graph.self_loops if graph else None,
         without_arcs=graph.without_arcs if graph else None,
-        capacity=sum_of(columns["cap"]) if "cap" in columns else None,
+        capacity=sum(columns["cap"].tolist()) if "cap" in columns else None,
         capacity_times_cost=sum_of_products(columns["cap"], columns["cost"]) if is_min else None,
         supply=sum(flow for flow in flows if flow > 0) if is_min else None,
         demand=-sum(flow for flow in flows if flow < 0) if is_min else None,
@@ -170,29 +169,9 @@ def count_of_nodes(np: Any, it: Graph) -> int:
     return int(np.count_nonzero(has_arcs))
 
 
-def sum_of(numbers: Column) -> int:
-    """Returns the sum of numbers that are not below 0."""
-    np = numpy_here()
-    if np is None:
-        return sum(numbers.tolist())
-    # Halves of 32 bits, so that no sum of 64 bits overflows.
-    return (int((numbers >> 32).sum()) << 32) + int((numbers & LOW).sum())
-
-
 def sum_of_products(caps: Column, costs: Column) -> int:
     """Returns the sum of each capacity times the absolute cost."""
-    np = numpy_here()
-    if np is None:
-        return sum(cap * abs(cost) for cap, cost in zip(caps.tolist(), costs.tolist()))
-    # The absolute value of -2^63 is itself, and as a number without a sign it is 2^63.
-    halves = [(it >> np.uint64(32), it & np.uint64(LOW)) for it in (caps.view("u8"), np.abs(costs).view("u8"))]
-    total = 0
-    for place, cap in zip((32, 0), halves[0]):
-        for to, cost in zip((32, 0), halves[1]):
-            product = cap * cost
-            total += int((product >> np.uint64(32)).sum()) << (32 + place + to)
-            total += int((product & np.uint64(LOW)).sum()) << (place + to)
-    return total
+    return sum(map(mul, caps.tolist(), map(abs, costs.tolist())))
 
 
 def ranges(columns: dict[str, Any]) -> Iterator[tuple[str, Range]]:
@@ -212,12 +191,8 @@ def text_of_listed(it: Listed) -> str:
     more = "" if it.merged is None else f", merged {it.merged}, self-loops {it.self_loops}"
     lines.append(f"lines {it.declared}, canonical {it.canonical}{more}")
     lines += [f"{field} {of.least} to {of.greatest}, {of.bits} bits" for field, of in it.fields.items()]
-    sums = {
-        "capacity": it.capacity,
-        "capacity times cost": it.capacity_times_cost,
-        "supply": it.supply,
-        "demand": it.demand,
-    }
+    sums = {"capacity": it.capacity, "capacity times cost": it.capacity_times_cost}
+    sums |= {"supply": it.supply, "demand": it.demand}
     told = [f"{what} {value}" for what, value in sums.items() if value is not None]
     lines += [f"sums: {', '.join(told)}"] if told else []
     lines.append(f"checksum {it.checksum}")
@@ -233,18 +208,14 @@ FIELDS = ("flow", "id", *dict.fromkeys(field for fields in VALUES.values() for f
 HEADS = [*(it for it in Listed._fields if it != "fields"), *(f"{it}_{of}" for it in FIELDS for of in Range._fields)]
 
 
-def row_of(it: Listed) -> dict[str, Any]:
-    """Returns the row of a file in a CSV table."""
+def row_of(it: Listed, is_first: bool) -> str:
+    """Returns the row of a file in a CSV table, with the heads before the first one."""
     found = {f"{field}_{of}": value for field, range_ in it.fields.items() for of, value in range_._asdict().items()}
-    return {**it._asdict(), **found}
-
-
-def table(rows: Iterable[dict[str, Any]], is_first: bool) -> str:
-    """Returns rows of a CSV table, with the heads before the first ones."""
-    found = []
-    for row in [*([dict(zip(HEADS, HEADS))] if is_first else []), *rows]:
+    rows = [dict(zip(HEADS, HEADS))] if is_first else []
+    made = ""
+    for row in [*rows, {**it._asdict(), **found}]:
         text = io.StringIO()
         # Only a terminator with CR has a name with CR quoted.
         csv.DictWriter(text, HEADS, extrasaction="ignore", lineterminator="\r\n").writerow(row)
-        found.append(text.getvalue().removesuffix("\r\n") + "\n")
-    return "".join(found)
+        made += text.getvalue().removesuffix("\r\n") + "\n"
+    return made

@@ -7,10 +7,10 @@ import hashlib
 import os
 import re
 import time
-from collections.abc import Callable, Iterable, Iterator
-from dataclasses import dataclass, field
+from collections.abc import Callable, Iterable
 from typing import NamedTuple, Optional
 
+from ..answers import Form
 from ..errors import Read
 from ..files import failing
 from ..names import KINDS
@@ -22,8 +22,8 @@ HEAD = re.compile(r"# form ([12])(?:, ([0-9]+) files?)?")
 # The line that earlier versions wrote before the line of a file, with its size, its time and its kind.
 EARLIER = re.compile(rf"# file -?[0-9]+ -?[0-9]+ ({'|'.join(dict.fromkeys(KINDS.values()))})")
 ENTRY = re.compile(r"(\\?)([0-9a-f]{64})  (.+)", re.S)
-# What follows the name of a file, behind a tab: its kind, its mark, and a sum of the line up to there.
-MARKED = re.compile(rf"(.*)\t# ({'|'.join(dict.fromkeys(KINDS.values()))}) ((?:-?[0-9]+ ){{5}})([0-9a-f]{{16}})", re.S)
+# What follows the name of a file, behind a tab: its mark, and a sum of the line up to there.
+MARKED = re.compile(r"(.*)\t# ((?:-?[0-9]+ ){5})([0-9a-f]{16})", re.S)
 # A file that was written so few nanoseconds before may be written again without another time.
 FRESH = 2_000_000_000
 
@@ -41,21 +41,12 @@ class Mark(NamedTuple):
 
 
 class Entry(NamedTuple):
-    """A file, its canonical checksum, the form of that, and the mark and the kind that the file had then, if these are
-    known."""
+    """A file, its canonical checksum, the form of that, and the mark that the file had then, if it is known."""
 
     name: str
     checksum: str
-    form: int
+    form: Form
     mark: Optional[Mark] = None
-    kind: str = ""
-
-
-class Summed(NamedTuple):
-    """The kind of a text, and its canonical checksum."""
-
-    kind: str
-    checksum: str
 
 
 def mark_of(name: str) -> Mark:
@@ -64,28 +55,19 @@ def mark_of(name: str) -> Mark:
     return Mark(it.st_size, it.st_mtime_ns, it.st_ctime_ns, it.st_ino, it.st_dev)
 
 
-def entry_of(name: str, form: int, read: Callable[[], Summed], known: Entry | None) -> Entry:
-    """Returns the entry of a file: the one that is known, if the file has its mark and this form, or else by what is
-    read. The new one has a mark if the file was not written meanwhile, or just before."""
+def entry_of(name: str, form: Form, sum_up: Callable[[], str], known: Entry | None) -> Entry:
+    """Returns the entry of a file: the one that is known, if the file has its mark and this form, or else one with the
+    checksum that `sum_up` returns, and with a mark if the file was not written meanwhile, or just before."""
     with failing(Read, name):
         before = mark_of(name)
     if known and (known.mark, known.form) == (before, form):
         return known
-    found = read()
+    checksum = sum_up()
     with failing(Read, name):
         is_sure = mark_of(name) == before
     # A time before 1970 or after now is none at which the file was written.
     is_sure &= 0 <= min(before.written, before.changed) and max(before[1:3]) < time.time_ns() - FRESH
-    return Entry(name, found.checksum, form, before if is_sure else None, found.kind)
-
-
-def known_kind(known: Entry | None) -> str:
-    """Returns the kind of the file of an entry, or nothing if the entry does not know it, or if the file was written
-    since."""
-    if not known or not known.mark:
-        return ""
-    with failing(Read, known.name):
-        return known.kind if known.mark == mark_of(known.name) else ""
+    return Entry(name, checksum, form, before if is_sure else None)
 
 
 def sum_of(form: int, line: str) -> str:
@@ -100,50 +82,10 @@ def text_of(entries: Iterable[Entry], form: int, has_marks: bool = False) -> str
         # Only a mark follows a tab.
         line = line_with(it.name, before=f"{it.checksum}  ", has_tabs=False)
         if has_marks and it.mark:
-            line = f"{line[:-1]}\t# {it.kind} {' '.join(map(str, it.mark))} "
+            line = f"{line[:-1]}\t# {' '.join(map(str, it.mark))} "
             line += f"{sum_of(form, line)}\n"
         lines.append(line)
     return f"# form {form}, {len(lines)} {'file' if len(lines) == 1 else 'files'}\n" + "".join(lines)
-
-
-@dataclass
-class Manifest:
-    """The entries of a manifest by the names of the files; the line of each; and the forms, and the numbers of files,
-    that its heads say."""
-
-    entries: dict[str, Entry] = field(default_factory=dict)
-    lines: dict[str, int] = field(default_factory=dict)
-    forms: set[int] = field(default_factory=set)
-    counts: list[Optional[int]] = field(default_factory=list)
-
-    @property
-    def form(self) -> int:
-        return max(self.forms, default=1)
-
-    def add(self, at: int, entry: Entry) -> None:
-        """Adds the entry of a line. Raises ValueError if there is one of its file."""
-        other = self.entries.get(entry.name)
-        if other:
-            what = "the file" if other.checksum == entry.checksum else "another checksum of the file"
-            raise ValueError(f"line {at} has {what} of line {self.lines[entry.name]} again")
-        self.entries[entry.name], self.lines[entry.name] = entry, at
-
-    def check(self) -> None:
-        """Raises ValueError if the manifest has another number of files than its heads say."""
-        wanted = sum(it or 0 for it in self.counts)
-        if None not in self.counts and self.counts and wanted != len(self.entries):
-            raise ValueError(f"its head says {wanted}, and it lists {len(self.entries)}: it is cut, or was edited")
-
-
-def heads_of(lines: Iterable[str]) -> Manifest:
-    """Returns a manifest without entries, with what its heads say. Raises ValueError for two forms."""
-    found = Manifest()
-    for head in filter(None, map(HEAD.fullmatch, lines)):
-        found.forms.add(int(head[1]))
-        found.counts.append(int(head[2]) if head[2] else None)
-    if len(found.forms) > 1:
-        raise ValueError("it has checksums of both forms: keep two manifests")
-    return found
 
 
 def lines_of(text: str) -> list[str]:
@@ -156,30 +98,40 @@ def lines_of(text: str) -> list[str]:
     return lines
 
 
-def manifest_of(text: str) -> Manifest:
-    """Returns what a manifest says. Raises ValueError for a line that no manifest can have, for a line with a mark that
-    is not as it was written, for a file that is listed twice, and for a manifest that is cut."""
+def entries_of(text: str) -> tuple[dict[str, Entry], bool]:
+    """Returns the entries of a manifest by the names of the files, and whether it says its form. Raises ValueError for
+    a line that no manifest can have, for a line with a mark that is not as it was written, for a file that is listed
+    twice, and for a manifest that is cut."""
     lines = lines_of(text)
-    found = heads_of(lines)
+    heads = [head.groups() for head in map(HEAD.fullmatch, lines) if head]
+    forms = {form for form, _ in heads}
+    if len(forms) > 1:
+        raise ValueError("it has checksums of both forms: keep two manifests")
+    # Earlier versions wrote no number of files, and no marks in the lines.
+    is_ours = bool(heads) and all(count for _, count in heads)
+    entries, places = dict[str, Entry](), dict[str, int]()
     for at, line in enumerate(lines, 1):
         if HEAD.fullmatch(line) or EARLIER.fullmatch(line):
             continue
-        marked = MARKED.fullmatch(line)
-        entry = ENTRY.fullmatch(marked[1] if marked else line)
-        name = name_in(entry[1], entry[3]) if entry else None
-        if not entry or not name:
-            raise ValueError(f"no manifest has the line {line!r}")
-        # Earlier versions wrote no such line, and this one writes a head with a number before it.
-        is_ours = bool(found.counts) and None not in found.counts
-        if marked and not (is_ours and sum_of(found.form, line[: -len(marked[4])]) == marked[4]):
-            raise ValueError(f"line {at} is not as it was written; without what follows its tab, the file is read")
-        mark = Mark(*map(int, marked[3].split())) if marked else None
-        found.add(at, Entry(name, entry[2], found.form, mark, marked[2] if marked else ""))
-    found.check()
-    return found
+        entry = entry_on(line, at, 2 if forms == {"2"} else 1, is_ours)
+        other = entries.get(entry.name)
+        if other:
+            what = "the file" if other.checksum == entry.checksum else "another checksum of the file"
+            raise ValueError(f"line {at} has {what} of line {places[entry.name]} again")
+        entries[entry.name], places[entry.name] = entry, at
+    wanted = sum(int(count or 0) for _, count in heads)
+    if is_ours and wanted != len(entries):
+        raise ValueError(f"its head says {wanted}, and it lists {len(entries)}: it is cut, or was edited")
+    return entries, bool(heads)
 
 
-def strange(found: Manifest) -> Iterator[str]:
-    """Yields what is odd about a manifest that can be read."""
-    if found.entries and not found.forms:
-        yield "it does not say its form, which is taken for 1"
+def entry_on(line: str, at: int, form: Form, is_ours: bool) -> Entry:
+    """Returns the entry on a line of a manifest of this form, which this version wrote, or an earlier one."""
+    marked = MARKED.fullmatch(line)
+    entry = ENTRY.fullmatch(marked[1] if marked else line)
+    name = name_in(entry[1], entry[3]) if entry else None
+    if not entry or not name:
+        raise ValueError(f"no manifest has the line {line!r}")
+    if marked and not (is_ours and sum_of(form, line[: -len(marked[3])]) == marked[3]):
+        raise ValueError(f"line {at} is not as it was written; without what follows its tab, the file is read")
+    return Entry(name, entry[2], form, Mark(*map(int, marked[2].split())) if marked else None)

@@ -8,11 +8,9 @@ import os
 import re
 from collections.abc import Iterator, Sequence
 from typing import NamedTuple, Union
-from urllib.parse import quote
 from xml.etree import ElementTree
 
 from ..errors import DnormError, Read, Refused
-from ..refusals import REFUSALS
 from ..summary import Differences
 from .checks import Accepted
 
@@ -72,7 +70,7 @@ def line_of(name: str, result: Result) -> str:
     if isinstance(result, DnormError):
         return line_with(name, after=told(name, result))
     more = [*([f"fits {', '.join(result.fits)}"] if result.fits else []), *result.remarks]
-    return line_with(name, after=f": {result.status} {result.kind}", more="".join(f", {it}" for it in more))
+    return line_with(name, after=f": accepted {result.kind}", more="".join(f", {it}" for it in more))
 
 
 def cause_of(result: Result) -> list[str]:
@@ -88,7 +86,7 @@ def cause_of(result: Result) -> list[str]:
 def record_of(name: str, result: Result) -> dict[str, object]:
     """Returns the JSON object of a file."""
     if isinstance(result, Accepted):
-        found: dict[str, object] = {"name": name, "status": result.status, "kind": result.kind, "forms": result.forms}
+        found: dict[str, object] = {"name": name, "status": "accepted", "kind": result.kind, "forms": result.forms}
         graphs = {} if result.fits is None else {"graphs": result.fits, "not_accepted": result.not_accepted}
         return {**found, **graphs, "remarks": result.remarks}
     found = {"name": name, "status": "failed", "error": f"{name}{told(name, result)}", "hint": None}
@@ -111,7 +109,7 @@ def annotation_of(name: str, result: Result) -> str:
     remarks. There is none for any other accepted file."""
     properties = {"file": os.path.normpath(name)}
     if isinstance(result, Accepted):
-        text = f"{name}: {result.status} {result.kind}, {', '.join(result.remarks)}"
+        text = f"{name}: accepted {result.kind}, {', '.join(result.remarks)}"
         return annotation("warning", properties, text) if result.remarks else ""
     parts = [f"{name}{told(name, result)}"]
     if isinstance(result, Refused):
@@ -132,33 +130,6 @@ def annotation(level: str, properties: dict[str, str], text: str) -> str:
 def escaped(text: str, forbidden: re.Pattern[str]) -> str:
     """Returns a text in which forbidden characters are written as GitHub reads them."""
     return forbidden.sub(lambda it: f"%{ord(it[0]):02X}", text)
-
-
-def sarif(cases: Sequence[Case]) -> str:
-    """Returns a document in the JSON of SARIF 2.1.0, with a result for each file that is refused or fails, or that is
-    accepted with remarks."""
-    results = [found for name, result, _ in cases if (found := sarif_of(name, result))]
-    rules = [{"id": word, "shortDescription": {"text": sentence}} for word, sentence in REFUSALS.values()]
-    driver = {"name": "dnorm", "rules": rules}
-    runs = [{"tool": {"driver": driver}, "columnKind": "unicodeCodePoints", "results": results}]
-    schema = "https://json.schemastore.org/sarif-2.1.0.json"
-    return as_json({"$schema": schema, "version": "2.1.0", "runs": runs})
-
-
-def sarif_of(name: str, result: Result) -> dict[str, object]:
-    """Returns the result of SARIF for a file, or none for an accepted file without remarks."""
-    place: dict[str, object] = {"artifactLocation": {"uri": quote(os.fsencode(os.path.normpath(name)))}}
-    found: dict[str, object] = {"level": "error", "locations": [{"physicalLocation": place}]}
-    if isinstance(result, Accepted):
-        text = f"{result.status} {result.kind}, {', '.join(result.remarks)}"
-        return {**found, "level": "warning", "message": {"text": text}} if result.remarks else {}
-    text = told(name, result).lstrip(":").strip()
-    if isinstance(result, Refused):
-        found["ruleId"] = result.word
-        text = " ".join([result.sentence, *cause_of(result)])
-        if result.line is not None:
-            place["region"] = {"startLine": result.line}
-    return {**found, "message": {"text": text}}
 
 
 def junit(cases: Sequence[Case]) -> bytes:

@@ -4,41 +4,28 @@ from __future__ import annotations
 
 import contextlib
 import errno
-import hashlib
 import os
 import time
 from argparse import Namespace
 from collections import Counter
-from collections.abc import Callable, Mapping, Sequence
+from collections.abc import Callable, Sequence
 from typing import TypeVar
 
-from ..calls import canon_into
+from ..answers import Form
+from ..calls import checksum
 from ..console import Console
 from ..errors import DnormError, Read, Refused
-from ..files import Sink, Text, failing, sink_of
-from ..handles import canonical_sum
-from ..instances import PROBLEM
-from ..library import instance_of, library_of
+from ..files import Text, failing, sink_of
+from ..library import held, library_of
 from ..limits import Limit
-from ..program import Program, absolute, unexpected
+from ..program import absolute
 from ..summary import differences
 from .checks import Accepted, Checker, Partners
 from .folders import Found, Workers, find, in_order_of_names, outcome
-from .listing import Listed, listed, record_of_listed, row_of, table, text_of_listed
-from .manifests import Entry, Manifest, Summed, entry_of, known_kind, manifest_of, mark_of, strange, text_of
-from .reports import (
-    Case,
-    annotation_of,
-    as_json,
-    cause_of,
-    junit,
-    line_of,
-    line_with,
-    lines_of_differences,
-    record_of,
-    record_of_differences,
-    sarif,
-)
+from .listing import Listed, listed, record_of_listed, row_of, text_of_listed
+from .manifests import Entry, entries_of, entry_of, mark_of, text_of
+from .reports import Case, annotation_of, as_json, cause_of, junit, line_of, line_with, lines_of_differences, record_of
+from .reports import record_of_differences
 from .staged import staged
 
 # The exit statuses besides 0. The greatest one that applies counts.
@@ -72,11 +59,10 @@ class Run:
     def check(self) -> None:
         """Checks files, and prints a line for each, and at the end the refusals with their causes."""
         words = self.words
-        known = {} if words.incremental is None else self.listed(words.incremental).entries
         with contextlib.ExitStack() as stack:
             found = self.staged(stack) if words.staged is not None else self.found()
             report = stack.enter_context(sink_of(words.junit)) if words.junit else None
-            cases = self.checked(found, known)
+            cases = self.checked(found)
             if report:
                 report.take(junit(cases))
         self.print_end(cases)
@@ -90,8 +76,8 @@ class Run:
         words.program, words.junit = absolute(words.program), words.junit and os.path.abspath(words.junit)
         return staged(words.staged or None, stack)
 
-    def checked(self, found: Found, known: Mapping[str, Entry]) -> Sequence[Case]:
-        """Checks these files, except for those that are known, prints a line for each, and returns what it found."""
+    def checked(self, found: Found) -> Sequence[Case]:
+        """Checks these files, prints a line for each, and returns what it found."""
         words = self.words
         partners = Partners(found.files if words.companions else ())
         checker = Checker(
@@ -99,7 +85,6 @@ class Run:
             words.timeout,
             self.library,
             partners=partners if words.companions else None,
-            known_kind=lambda name: known_kind(known.get(name)),
             has_forms=words.format == "json",
             is_strict=words.strict,
         )
@@ -121,9 +106,8 @@ class Run:
         found = accepted(cases)
         alone = sum(it.is_alone for it in found)
         unsure = sum(bool(it.not_accepted) for it in found)
-        unchanged = sum(it.is_unchanged for it in found)
         self.sum_up(
-            f"{self.done - unchanged} accepted{other_than(unchanged)}",
+            f"{self.done} accepted",
             counted(alone, "companion without a graph", "companions without a graph"),
             counted(unsure, "companion of a graph that is not accepted", "companions of graphs that are not accepted"),
             counted(sum(it.named is not None for it in found), OTHER_KIND, OTHER_KINDS),
@@ -143,10 +127,7 @@ class Run:
             self.console.print(line_of(name, result))
 
     def print_end(self, cases: Sequence[Case]) -> None:
-        """Prints the SARIF document of all files; or the refused and failed files again, with the causes, on standard
-        error."""
-        if self.words.format == "sarif":
-            self.console.print(sarif(cases))
+        """Prints the refused and failed files again, with the causes, on standard error."""
         if self.words.format != "text" or self.words.quiet:
             return
         for name, result, _ in cases:
@@ -164,16 +145,17 @@ class Run:
         entries: list[Entry] = []
 
         def task(name: str) -> Entry:
-            return entry_of(name, words.form, lambda: self.summed(name, words.form), known.get(name))
+            return entry_of(name, words.form, lambda: self.checksum(name, words.form), known.get(name))
 
         def take(name: str, result: Entry | DnormError, _: float) -> None:
             self.count(result)
+            if isinstance(result, DnormError):
+                self.tell(name, result)
+                return
+            entries.append(result)
             if words.json:
-                self.console.print(as_json(record_of_entry(name, result)))
-            elif isinstance(result, DnormError):
-                self.console.complain(line_of(name, result))
-            if isinstance(result, Entry):
-                entries.append(result)
+                found = {"checksum": result.checksum, "form": result.form}
+                self.console.print(as_json({"name": name, "status": "listed", **found}))
 
         with contextlib.suppress(Incomplete), contextlib.ExitStack() as stack:
             target = stack.enter_context(sink_of(output)) if output else None
@@ -187,27 +169,27 @@ class Run:
             elif not words.json:
                 self.console.print(text)
         unchanged = sum(it is known.get(it.name) for it in entries)
-        self.sum_up(f"{self.done - unchanged} listed{other_than(unchanged)}")
+        self.sum_up(f"{self.done - unchanged} listed" + (f", {unchanged} unchanged" if unchanged else ""))
 
     def known(self) -> dict[str, Entry]:
         """Returns the entries of the manifest that is to be renewed, or none if there is no such file yet."""
         name = self.words.incremental
-        return {} if name is None or not os.path.lexists(name) else self.listed(name, is_empty=True).entries
+        return {} if name is None or not os.path.lexists(name) else self.listed(name, is_empty=True)
 
-    def summed(self, name: str, form: int = 1) -> Summed:
-        """Returns the kind of a file, and its canonical checksum."""
-        limit = Limit(self.words.timeout, name)
+    def checksum(self, name: str, form: Form) -> str:
+        """Returns the canonical checksum of a file."""
+        words = self.words
         if not self.library:
-            return summed_by_program(name, form, self.words.program, limit)
+            return checksum(name, form, program=words.program, timeout=words.timeout)
+        limit = Limit(words.timeout, name)
         with contextlib.ExitStack() as stack:
-            held = stack.enter_context(instance_of(self.library, Text(name, stack, limit), form))
-            found = Summed(held.kind, canonical_sum(self.library, held, form, limit))
+            found = stack.enter_context(held(self.library, Text(name, stack, limit))).checksum(form)
         return found
 
     def verify(self) -> None:
         """Compares the canonical checksums of a manifest with those of the files, and prints a line for each. Names
         files that the paths name and the manifest does not."""
-        entries = [*self.listed(self.words.verify).entries.values()]
+        entries = [*self.listed(self.words.verify).values()]
         counts: Counter[str] = Counter()
 
         def take(entry: Entry, result: str | DnormError, _: float) -> None:
@@ -222,7 +204,7 @@ class Run:
             self.say(entry.name, status or result, {"checksum": entry.checksum, "form": entry.form})
 
         def task(entry: Entry) -> str | DnormError:
-            return outcome(lambda: self.summed(entry.name, entry.form).checksum, entry.name)
+            return outcome(lambda: self.checksum(entry.name, entry.form), entry.name)
 
         self.each(task, entries, take)
         known = {os.path.abspath(it.name) for it in entries}
@@ -249,16 +231,16 @@ class Run:
         elif found != "same" or not self.words.quiet:
             self.console.print(line_with(name, after=f": {found}"))
 
-    def listed(self, name: str, is_empty: bool = False) -> Manifest:
-        """Returns what a manifest says, which may be empty or not, and tells what is odd about it. Like a text, it may
-        be compressed."""
+    def listed(self, name: str, is_empty: bool = False) -> dict[str, Entry]:
+        """Returns the entries of a manifest by their names, and tells what is odd about it. It may be empty or not, and
+        like a text, it may be compressed."""
         with failing(Read, name), contextlib.ExitStack() as stack:
             text = Text(name, stack, Limit(None, name))
-            found = manifest_of(os.fsdecode(b"".join(iter(text.next_piece, None))))
-        if not found.entries and not is_empty:
+            found, has_form = entries_of(os.fsdecode(b"".join(iter(text.next_piece, None))))
+        if not found and not is_empty:
             raise Read(name, "it lists no file")
-        for it in strange(found):
-            self.console.complain(line_with(name, after=f": {it}"))
+        if found and not has_form:
+            self.console.complain(line_with(name, after=": it does not say its form, which is taken for 1"))
         return found
 
     def same(self) -> None:
@@ -279,8 +261,8 @@ class Run:
                 group[file] = name
 
         def task(name: str) -> tuple[str, tuple[int, int]]:
-            checksum, mark = self.summed(name).checksum, mark_of(name)
-            return checksum, (mark.device, mark.number)
+            found, mark = self.checksum(name, 1), mark_of(name)
+            return found, (mark.device, mark.number)
 
         self.each_file(self.found(), task, take)
         found = [(sum_, sorted(it.values(), key=os.fsencode)) for sum_, it in groups.items() if len(it) > 1]
@@ -300,13 +282,11 @@ class Run:
         def take(name: str, result: Listed | DnormError, _: float) -> None:
             nonlocal rows
             self.count(result)
-            if isinstance(result, Listed):
+            if isinstance(result, DnormError):
+                self.tell(name, result)
+            else:
                 self.console.print(as_listed(result, words, not rows))
                 rows += 1
-            elif words.json:
-                self.console.print(as_json(record_of(name, result)))
-            else:
-                self.console.complain(line_of(name, result))
 
         self.each_file(self.found(), task, take)
         self.sum_up(f"{self.done} listed")
@@ -338,10 +318,7 @@ class Run:
         return found
 
     def each_file(
-        self,
-        found: Found,
-        task: Callable[[str], Outcome],
-        take: Callable[[str, Outcome | DnormError, float], None],
+        self, found: Found, task: Callable[[str], Outcome], take: Callable[[str, Outcome | DnormError, float], None]
     ) -> None:
         """Runs a task on each file, and takes the results in the order of the names."""
         files = in_order_of_names(found.files)
@@ -355,10 +332,7 @@ class Run:
         self.each(one, list(files), take)
 
     def each(
-        self,
-        task: Callable[[Item], Outcome],
-        items: Sequence[Item],
-        take: Callable[[Item, Outcome, float], None],
+        self, task: Callable[[Item], Outcome], items: Sequence[Item], take: Callable[[Item, Outcome, float], None]
     ) -> None:
         """Runs a task on each item, and takes the results in their order, each with the seconds that it took."""
 
@@ -369,11 +343,11 @@ class Run:
             return found, time.monotonic() - start
 
         self.console.expect(len(items), self.sizes(items))
-        workers = Workers(timed, items, self.words.jobs, self.console.draw)
+        workers = Workers(timed, items, self.words.jobs)
         self.ended = 0
         try:
             for at, item in enumerate(items):
-                result, seconds = workers.result(at)
+                result, seconds = workers.result(at, self.console.draw)
                 self.ended += 1
                 take(item, result, seconds)
                 if self.is_enough():
@@ -409,6 +383,13 @@ class Run:
             self.print_rest()
             self.sum_up(f"{self.done} {DONE[self.words.task]}")
 
+    def tell(self, name: str, error: DnormError) -> None:
+        """Prints the error of a file: as a JSON object, or on standard error."""
+        if self.words.json:
+            self.console.print(as_json(record_of(name, error)))
+        else:
+            self.console.complain(line_of(name, error))
+
     def count(self, result: object) -> None:
         """Counts the result of a file."""
         if isinstance(result, Refused):
@@ -427,30 +408,6 @@ class Run:
         self.console.complain(", ".join(it for it in parts if it) + "\n")
 
 
-def summed_by_program(name: str, form: int, program: Program, limit: Limit) -> Summed:
-    """Returns the kind of a file, and its canonical checksum, by the program."""
-    found, head = hashlib.sha256(), b""
-
-    def take(piece: bytes) -> None:
-        nonlocal head
-        found.update(piece)
-        if b"\n" not in head:
-            head += piece
-
-    canon_into(Sink("out", take), name, form, program, limit)
-    problem = PROBLEM.match(head)
-    if not problem:
-        raise unexpected(name, 0, head.partition(b"\n")[0].decode("ascii", "backslashreplace"))
-    return Summed((problem[1] or problem[3]).decode(), found.hexdigest())
-
-
-def record_of_entry(name: str, result: Entry | DnormError) -> dict[str, object]:
-    """Returns the JSON object of a file of a manifest."""
-    if isinstance(result, DnormError):
-        return record_of(name, result)
-    return {"name": name, "status": "listed", "checksum": result.checksum, "form": result.form}
-
-
 def accepted(cases: Sequence[Case]) -> list[Accepted]:
     return [it.result for it in cases if isinstance(it.result, Accepted)]
 
@@ -460,15 +417,10 @@ def counted(count: int, one: str, many: str) -> str:
     return f"{count} {one if count == 1 else many}" if count else ""
 
 
-def other_than(unchanged: int) -> str:
-    """Returns how many files were not read, in words behind a number of others, or nothing if all were."""
-    return f", {unchanged} unchanged" if unchanged else ""
-
-
 def as_listed(it: Listed, words: Namespace, is_first: bool) -> str:
     """Returns what `list` prints for a file."""
     if words.json:
         return as_json(record_of_listed(it))
     if words.csv:
-        return table([row_of(it)], is_first)
+        return row_of(it, is_first)
     return line_with(it.name, after=f": {it.kind}") + text_of_listed(it)

@@ -1,1 +1,1 @@
-"""Canonical texts of graphs that are larger than memory, made in parts: `dnorm-files parts`."""
+"""Canonical texts of graphs that are larger than memory, made in parts: `canon-in-parts`."""

@@ -1,31 +1,37 @@
-"""Writes the canonical text of a graph that does not fit into memory, or that several machines are to work on: the
-bytes that one run of dnorm over the whole text would write. `canon-in-parts --help` explains its use.
+"""Writes the canonical text of a graph that does not fit into memory: the bytes that one run of dnorm over the whole
+text would write. `canon-in-parts --help` explains its use.
 
 The text is cut into a head and chunks of whole lines. Each chunk is canonicalised by itself. Its arcs, then sorted by
 tail, are cut into ranges of tails, at the same tails in each chunk. For each range, the slices of all chunks are
 canonicalised again, one after another; the ranges, one after another, are the arcs of the whole.
 
 All files of a run are in one folder: head.raw, chunk.N (lines as they are), chunk.N.arcs and range.N.arcs (canonical
-texts); and range.N (slices of all chunks, in their order) if other machines get it."""
+texts)."""
 
 from __future__ import annotations
 
 import contextlib
 import os
 import re
-import subprocess
+from argparse import Namespace
 from collections.abc import Iterator, Sequence
+from concurrent.futures import FIRST_EXCEPTION, ThreadPoolExecutor, wait
 from dataclasses import dataclass
 from itertools import chain
-from typing import Any, BinaryIO, NamedTuple
+from typing import BinaryIO, NamedTuple
 
-from ..files import write_all
+from ..console import Console
+from ..errors import DnormError, Memory, Refused, Write
+from ..files import Sink, write_all
 from ..program import children
-from .machines import Jobs, Part
-from .part import ARC, BLOCK, Failed, Piece, Result, blocks, feed, lines, whole
+from .part import ARC, BLOCK, Piece, Result, blocks, canon, canon_part, lines, whole
 
 # A line whose first word is `p`.
 PROBLEM = re.compile(rb"^[ \t\r]*p[ \t\r].*", re.M)
+# The longest wait for a job, in seconds. A signal that comes just before a wait does not end it.
+PAUSE = 0.1
+# A part is given by its pieces, and by the name of its files.
+Part = tuple[Sequence[Piece], str]
 # About how many tails of a chunk are looked at, to choose the ranges.
 TAILS = 100
 
@@ -40,16 +46,6 @@ class Ended(Exception):
 
 def fail(status: int, line: str) -> Ended:
     return Ended(status, f"canon-in-parts: {line}")
-
-
-class Options(NamedTuple):
-    """What the command line says of the text: its name, the form, how many lines a chunk has, and how many ranges there
-    are, as many as chunks by default."""
-
-    file: str
-    form: int
-    lines: int
-    parts: int | None
 
 
 @dataclass
@@ -70,10 +66,12 @@ class Fault(NamedTuple):
 
 
 class Parts:
-    """A run, in a folder of its own. `has_output` says whether standard output is open."""
+    """A run of this program, in a folder of its own, with the parsed `options`. `has_output` says whether standard
+    output is open."""
 
-    def __init__(self, options: Options, folder: str, jobs: Jobs, has_output: bool) -> None:
-        self.options, self.folder, self.jobs, self.has_output = options, folder, jobs, has_output
+    def __init__(self, options: Namespace, folder: str, program: str, has_output: bool) -> None:
+        self.options, self.folder, self.program, self.has_output = options, folder, program, has_output
+        self.console = Console()
         self.head = f"{folder}/head.raw"
         self.kind, self.nodes, self.declared = "", 0, 0
         # The refusal of a `max` text without a source or a sink, which is reported only at the end.
@@ -98,22 +96,27 @@ class Parts:
         earliest = self.too_large(chunks, ranges, results)
         for it in [earliest, fault]:
             if it:
-                raise self.stop(2, f"{it.line}: {it.refusal}")
+                raise self.stop(f":{it.line}: {it.refusal}")
         if self.missing:
-            raise self.stop(2, self.missing)
+            raise self.stop(self.missing)
         if seen != self.declared:
-            raise self.stop(2, "end: 20 TooFewLines")
+            raise self.stop(":end: 20 TooFewLines")
         if made != sum(it.arcs for it in results):
             raise fail(4, "a part was lost on its way")
         self.write_text(parts, results)
 
-    def stop(self, status: int, what: str) -> Ended:
-        """Returns the end with the line that dnorm would print for the text."""
-        return Ended(status, f"{self.options.file}:{what}")
+    def stop(self, what: str) -> Ended:
+        """Returns the end with the line that dnorm would print for a text with this fault."""
+        return Ended(2, f"{self.options.file}{what}")
+
+    def tell(self, what: str) -> None:
+        """Says on a terminal what is done."""
+        if self.console.is_terminal and what:
+            self.console.complain(f"canon-in-parts: {what}\n")
 
     def cut_text(self) -> list[str]:
         """Cuts standard input into chunks of whole lines."""
-        self.jobs.tell("cutting the text")
+        self.tell("cutting the text")
         paths: list[str] = []
         left, block = 0, b""
         with open(0, "rb", buffering=0, closefd=False) as text, contextlib.ExitStack() as stack:
@@ -131,19 +134,15 @@ class Parts:
 
     def in_one_run(self, paths: Sequence[str]) -> Ended:
         """Writes the canonical text of files in one run of the program, and returns the end with its status."""
-        at = f"{self.folder}/whole"
-        with open(at, "wb", buffering=0) as file:
-            for path in paths:
-                pour(whole(path), file)
-                os.remove(path)
-        with open(at, "rb") as text:
-            words = ["canon", "--form", f"{self.options.form}", "-"]
-            with children.running([self.jobs.program, *words], stdin=text, stderr=subprocess.PIPE) as process:
-                said = os.fsdecode(process.communicate()[1])
-        status, line = process.returncode, said.rstrip("\n")
-        if not status and not self.has_output:
-            return Ended(4, "out: 33 Write")
-        return Ended(128 - status if status < 0 else status, re.sub("^-:", lambda _: f"{self.options.file}:", line))
+        text = (block for path in paths for block in blocks(whole(path)))
+        try:
+            with open(1, "wb", buffering=0, closefd=False) as out:
+                canon(self.program, text, self.options.form, Sink("out", len, out))
+        except Refused as error:
+            return self.stop(error.rest)
+        if not self.has_output:
+            raise Write("out")
+        return Ended(0, "")
 
     def without_head(self, paths: Sequence[str], first: int, at: int) -> list[Chunk]:
         """Moves all lines before the first arc line, at byte `at` of this chunk, from the chunks into the head."""
@@ -169,37 +168,46 @@ class Parts:
         kind and the two numbers of the problem line."""
         with open(first.path, "rb") as chunk:
             arc = chunk.readline()
-        status, said = self.canon_head(arc, subprocess.DEVNULL)
-        place, _, refusal = said.removeprefix("-:").partition(":")
-        if status == 2 and f"{place}:{refusal}".startswith("end: 19 "):
-            self.missing = f"{place}:{refusal}"
-        elif status in (2, 4) and not (status == 2 and f"{place}:{refusal}".startswith("end: 20 ")):
-            raise self.stop(status, place + (f":{refusal}" if refusal else ""))
-        elif status not in (0, 2):
-            raise fail(4, "the head of the text could not be read")
+        try:
+            canon(self.program, chain(lines(whole(self.head)), [arc]), 1, Sink("out", len))
+        except Refused as error:
+            if error.number == 19:
+                self.missing = error.rest
+            elif error.number != 20:
+                raise self.stop(error.rest) from error
         problem = next(filter(None, map(PROBLEM.search, lines(whole(self.head)))))
         _, kind, nodes, declared, *_ = re.split(rb"[ \t\r]+", problem[0].strip(b" \t\r"))
         self.kind, self.nodes, self.declared = kind.decode(), int(nodes), int(declared)
 
-    def canon_head(self, more: bytes, out: int | BinaryIO, problem: bytes = b"") -> tuple[int, str]:
-        """Canonicalises the head and further lines, with another problem line if one is given. Returns the status of
-        the program, and what it says."""
-        streams: dict[str, Any] = {"stdin": subprocess.PIPE, "stdout": out, "stderr": subprocess.PIPE}
-        with children.running([self.jobs.program, "canon", "-"], **streams) as process:
-            assert process.stdin and process.stderr
-            head = lines(whole(self.head))
-            feed(process.stdin, chain((PROBLEM.sub(problem, it, 1) if problem else it for it in head), [more]))
-            said = os.fsdecode(process.stderr.read()).rstrip("\n")
-            return process.wait(), said
-
     def canon(self, what: str, parts: Sequence[Part], form: int) -> list[Result]:
-        """Canonicalises parts, here or on the machines; a part without a message, here."""
-        try:
-            results = self.jobs.canon(what, self.kind, self.nodes, form, parts)
-        except Failed as failed:
-            if str(failed) == "30 Memory":
-                raise self.stop(4, " 30 Memory") from failed
-            raise fail(4, "a part failed" + (f": {failed}" if str(failed) else "")) from failed
+        """Canonicalises parts, as many at once as there are jobs, and returns their results."""
+
+        def one(pieces: Sequence[Piece], path: str) -> Result:
+            found = canon_part(self.program, self.kind, self.nodes, form, pieces, f"{path}.arcs")
+            self.console.step()
+            return found
+
+        self.tell(what)
+        self.console.expect(len(parts))
+        with ThreadPoolExecutor(self.options.jobs) as pool:
+            try:
+                futures = [pool.submit(one, *it) for it in parts]
+                rest = set(futures)
+                while rest:
+                    done, rest = wait(rest, PAUSE, FIRST_EXCEPTION)
+                    for it in done:
+                        it.result()
+            except BaseException as error:
+                children.stop()
+                pool.shutdown(wait=False, cancel_futures=True)
+                # The system may let no thread start, which is a RuntimeError.
+                if isinstance(error, (DnormError, RuntimeError)) and not isinstance(error, Memory):
+                    why = error.rest.lstrip(": ") if isinstance(error, DnormError) else error
+                    raise fail(4, f"a part failed: {why}") from error
+                raise
+            finally:
+                self.console.hide()
+        results = [it.result() for it in futures]
         for (_, path), result in zip(parts, results):
             if os.path.getsize(f"{path}.arcs") != result.size:
                 raise fail(4, "a part was lost on its way")
@@ -222,7 +230,7 @@ class Parts:
                 # In `sp` no sum can be too large in the lines before.
                 fault = Fault(chunk.before + line, refusal)
                 if self.kind == "sp":
-                    raise self.stop(2, f"{fault.line}: {refusal}")
+                    raise self.stop(f":{fault.line}: {refusal}")
                 os.truncate(chunk.path, end_of(chunk.path, line - 1))
                 result = self.canon("", [([whole(chunk.path)], chunk.path)], 1)[0]
             chunk.arcs = Piece(f"{chunk.path}.arcs", result.start, result.size)
@@ -253,8 +261,9 @@ class Parts:
     def write_text(self, parts: Sequence[Part], results: Sequence[Result]) -> None:
         """Writes the canonical text: the head with the count of all arcs, and the ranges."""
         at = f"{self.folder}/head.canon"
+        problem = f"p {self.kind} {self.nodes} 0".encode()
         with open(at, "wb") as head:
-            self.canon_head(b"", head, f"p {self.kind} {self.nodes} 0".encode())
+            canon(self.program, (PROBLEM.sub(problem, it, 1) for it in lines(whole(self.head))), 1, Sink("", len, head))
         with open(at, "rb") as head:
             end = len(head.readline())
         count = sum(it.made for it in results)
@@ -268,7 +277,7 @@ class Parts:
                 pour(Piece(f"{path}.arcs", result.start, result.size), out)
                 os.remove(f"{path}.arcs")
         except OSError as error:
-            raise Ended(4, "out: 33 Write") from error
+            raise Write("out") from error
 
 
 def pour(piece: Piece, to: BinaryIO) -> None:
