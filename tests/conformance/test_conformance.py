@@ -1,6 +1,6 @@
 """The conformance suite in share/conformance: its answers are those of reading.py; the cases find each mistake of
-mutants.py that changes an answer; docs/FORMAT.md names the cases of each rule, and sentences.txt those of each
-sentence; what each level of run.py compares, and what it does with readers that fail."""
+mutants.py that changes an answer; docs/FORMAT.md names the cases of each rule; what each level of run.py compares, and
+what it does with readers that fail."""
 
 import contextlib
 import importlib
@@ -20,9 +20,8 @@ from xml.etree import ElementTree
 
 import mutants
 import pytest
-import sentences
 from needs import leave_out, terminal
-from shared import LIMIT, ROOT, Answer, bytes_of, listed, run, said, text_of, write
+from shared import CLONES, LIMIT, ROOT, Answer, bytes_of, clone_of, listed, run, said, text_of, write
 from suite import FOLDER, answer, cases, released, rules, texts, told
 
 sys.path.append(f"{ROOT}/tools")
@@ -54,16 +53,13 @@ FAILING = [
     ("ends by a signal", "kill -9 $$", " printed '', ended by signal 9; expected"),
     ("does not end", "exec sleep 60", "10 calls did not end within 0.3 seconds, and the other cases are not tried"),
     ("leaves a process that does not end", "sleep 60 & exit 0", "10 calls did not end within 0.3 seconds"),
-    (
-        "closes its streams and does not end",
-        "exec sleep 60 > /dev/null 2>&1",
-        "10 calls did not end within 0.3 seconds",
-    ),
+    ("closes its streams and does not end", "exec sleep 60 > /dev/null 2>&1",
+        "10 calls did not end within 0.3 seconds"),
     ("prints without end", "exec yes accepted min", "and was ended: it printed too much; expected"),
     ("refuses everything", 'echo "-:1: 1 BadLine" >&2; exit 2', "-:1: 1 BadLine\\n', status 2; expected"),
     ("writes before a refusal", 'echo p; exec "$P" "$@"', "expected 'accepted min' and status 0"),
     ("has another status", '"$P" "$@" || exit 1', "status 1; expected '-:3: 15 SameTerminal' and status 2"),
-]
+]  # fmt: skip
 # Readers in sh that fail with --batch, with a part of what run.py prints.
 BATCHES = [
     ("read line; exit 7", "check printed '', status 7; expected"),
@@ -73,25 +69,21 @@ BATCHES = [
 ]
 # Wrong command lines, and a part of what is said of them.
 WRONG: list[tuple[list[str], str]] = [
-    ([], "COMMAND is missing"),
-    (["--level", "all", "true"], "invalid choice: 'all'"),
-    (["--rule", "all", "true"], "invalid choice: 'all'"),
-    (["--kind", "all", "true"], "invalid choice: 'all'"),
+    ([], "COMMAND is missing"), (["--level", "all", "true"], "invalid choice: 'all'"),
+    (["--rule", "all", "true"], "invalid choice: 'all'"), (["--kind", "all", "true"], "invalid choice: 'all'"),
     (["--limit", "0", "true"], "invalid positive value: '0'"),
-    (["--limit", "inf", "true"], "invalid positive value: 'inf'"),
-    (["--jobs", "0", "true"], "--jobs is at least 1"),
+    (["--limit", "inf", "true"], "invalid positive value: 'inf'"), (["--jobs", "0", "true"], "--jobs is at least 1"),
     (["--case", "first-mi", "true"], "no case has the id 'first-mi'"),
     (["--refused", "0", "true"], "invalid status value: '0'"),
     (["--refused", "256", "true"], "invalid status value: '256'"),
     (["--memory", "0", "true"], "--memory is at least 1"),
     (["--expect", "/nowhere/list", "true"], "/nowhere/list: No such file or directory"),
     (["--tap", "--json", "true"], "--json: not allowed with argument --tap"),
-    (["--pieces", "0", "true"], "invalid sizes value: '0'"),
-    (["--pieces", "1,", "true"], "invalid sizes value: '1,'"),
+    (["--pieces", "0", "true"], "invalid sizes value: '0'"), (["--pieces", "1,", "true"], "invalid sizes value: '1,'"),
     (["--lev", "accept", "true"], "unrecognized arguments: --lev"),
     (["/nowhere/reader"], "/nowhere/reader: No such file or directory"),
     (["/etc/passwd"], "/etc/passwd: Permission denied"),
-]
+]  # fmt: skip
 
 
 CASES = [*cases()]
@@ -222,18 +214,6 @@ def test_rules_named() -> None:
             assert sorted(found) == sorted(wanted), f"cases in {FORMAT}, {own}"
 
 
-def test_sentences() -> None:
-    """Sentences.txt has one line for each sentence of docs/FORMAT.md, and names cases that exist."""
-    found, lines = [*sentences.sentences()], [*sentences.listed()]
-    for it in found:
-        own = [begin for begin, _ in lines if it.startswith(begin)]
-        assert len(own) == 1, f"lines of sentences.txt for {it!r}"
-    for begin, _ in lines:
-        assert sum(it.startswith(begin) for it in found) == 1, f"sentences of {FORMAT} for {begin!r}"
-    unknown = {it for _, ids in lines for it in ids} - {it["id"] for it in CASES}
-    assert sorted(unknown) == [], "cases of sentences.txt that do not exist"
-
-
 @pytest.mark.parametrize("what, script, passed", READERS, ids=[it[0] for it in READERS])
 def test_levels(made: Conformance, what: str, script: str, passed: str) -> None:
     """What each level compares, on readers that pass one level and fail the next one."""
@@ -273,27 +253,10 @@ def test_by_text(made: Conformance) -> None:
         assert (found.out, found.err.decode(), found.status) == (b"", told, 3), "by-text without dnorm"
 
 
-# What the `./dnorm` and the tools/program of a clone do, in sh, what they then have written into a log, and the status
-# of run.py.
-CLONES = {
-    "a program": ('echo own >> log; exec "$P" "$@"', "echo found >> log; echo $P", "found", 0),
-    "a program that is built first": (
-        "echo own >> log",
-        "echo found >> log; cat log | grep own > o && echo $P",
-        "found own found",
-        0,
-    ),
-    "no program": ("echo own >> log; exit 125", "echo found >> log; exit 125", "found own found", 3),
-}
-
-
-@pytest.mark.parametrize("what", CLONES)
-def test_clone(made: Conformance, what: str) -> None:
+@pytest.mark.parametrize("what, log, status", zip(CLONES, ["found", *["found own found"] * 2], [0, 0, 3]))
+def test_clone(made: Conformance, what: str, log: str, status: int) -> None:
     """Which program the `./dnorm` of a clone runs is asked once, and not by each call."""
-    own, finder, log, status = CLONES[what]
-    os.makedirs("clone/tools")
-    for path, script in [("clone/dnorm", own), ("clone/tools/program", finder)]:
-        os.rename(made.reader(f"cd {made.folder}; {script}"), path)
+    clone_of(what, made.tested)
     found = made.run("--level", "compare", "--rule", "form", "--rule", "fit", "clone/dnorm")
     assert (found.status, text_of("log").split()) == (status, log.split()), found
     assert (found.err == b"") == (status == 0), found
@@ -394,7 +357,7 @@ def test_shapes(made: Conformance) -> None:
         own = {name: case[name] for name in ("text", "with") if name in case}
         files = {name: bytes_of(f"{written}/{case['id']}.{name}").decode("latin-1") for name in own}
         assert files == own, f"--write, {case['id']}"
-    assert made.run("--version").out.decode() == "cases 2\n", "--version"
+    assert made.run("--version").out.decode() == "cases 3\n", "--version"
 
 
 def test_messages(made: Conformance) -> None:
@@ -432,15 +395,8 @@ def test_memory(made: Conformance) -> None:
     assert f"printed '{123 * 1024}\\n'".encode() in found.out
 
 
-def test_by_module(made: Conformance) -> None:
-    """`python3 -m dnorm conformance`, and that the suite is installed as it is here."""
-    environment = {**os.environ, "PYTHONPATH": f"{ROOT}/python/src", "PYTHONDONTWRITEBYTECODE": "1"}
-    passing = f"{len(ids_of('first'))} cases pass, 0 fail (level compare)\n"
-    words = ["--level", "compare", *PATIENT, "--rule", "first", made.tested]
-    runs: list[tuple[list[str], str, int]] = [(words, passing, 0), ([], "", 3)]
-    for words, out, status in runs:
-        found = run([sys.executable, "-m", "dnorm", "conformance", *words], cwd=made.folder, env=environment)
-        assert (found.out.decode(), found.status) == (out, status), f"conformance {words}: {found}"
+def test_installed() -> None:
+    """The suite is installed as it is here."""
     below = [f"{at}/{it}" for at, _, names in os.walk(FOLDER) for it in names if not it.endswith(".pyc")]
     own = {os.path.relpath(it, FOLDER): stat.S_IMODE(os.stat(it).st_mode) & 0o111 > 0 for it in below}
     top = "share/conformance/"
