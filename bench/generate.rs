@@ -146,13 +146,31 @@ impl Text {
         self.line.push(b'\n');
         self.to.write_all(&self.line).unwrap();
     }
+    fn rows<const N: usize>(&mut self, head: &str, rows: &[[i64; N]]) {
+        rows.iter().for_each(|row| self.row(head, row, ""));
+    }
+    /// Writes a graph, whose first and last nodes are the source and the sink in `max`.
+    fn graph<const N: usize>(&mut self, kind: &str, nodes: i64, supplies: &[[i64; 2]], arcs: &[[i64; N]]) {
+        self.row(&format!("p {kind}"), &[nodes, arcs.len() as i64], "");
+        if kind == "max" {
+            self.row("n", &[1], "s");
+            self.row("n", &[nodes], "t");
+        }
+        self.rows("n", supplies);
+        self.rows("a", arcs);
+    }
+    fn companion<const N: usize>(&mut self, about: &str, kind: &str, letter: &str, items: &[[i64; N]]) {
+        self.comment(about);
+        self.row(&format!("p aux sp {kind}"), &[items.len() as i64], "");
+        self.rows(letter, items);
+    }
 }
 
-/// An undirected road between two nodes, with its length.
-type Edge = (u32, u32, u32);
+/// An arc of `sp` or `max`, or an undirected road: two nodes and a number.
+type Arc = [i64; 3];
 
 /// Returns the edges (u < v) of a sparse grid with about `arcs / 2` edges, and the number of nodes.
-fn road_edges(arcs: u64, random: &mut Random) -> (i64, Vec<Edge>) {
+fn road_edges(arcs: u64, random: &mut Random) -> (i64, Vec<Arc>) {
     // The largest road files have about 2.44 arcs per node, so each of the two grid edges of a node
     // is kept with probability 0.61. A few long edges represent bridges and motorways.
     let n = ((arcs as f64 / 2.44) as u64).max(2);
@@ -161,23 +179,23 @@ fn road_edges(arcs: u64, random: &mut Random) -> (i64, Vec<Edge>) {
     for u in 0..n {
         for v in [u + 1, u + width] {
             if v < n && random.below(100) < 61 {
-                edges.push((u as u32 + 1, v as u32 + 1, road_length(random)));
+                edges.push([u as i64 + 1, v as i64 + 1, road_length(random)]);
             }
         }
         if random.one_in(500) {
             let v = random.below(n);
             if v != u && v != u + 1 && v != u + width && u != v + 1 && u != v + width {
                 let length = 9 * road_length(random);
-                edges.push((u.min(v) as u32 + 1, u.max(v) as u32 + 1, length));
+                edges.push([u.min(v) as i64 + 1, u.max(v) as i64 + 1, length]);
             }
         }
     }
     edges.sort_unstable();
-    edges.dedup_by_key(|edge| (edge.0, edge.1));
+    edges.dedup_by_key(|edge| (edge[0], edge[1]));
     (n as i64, edges)
 }
-fn road_length(random: &mut Random) -> u32 {
-    let length = 1 + random.below(2500) as u32;
+fn road_length(random: &mut Random) -> i64 {
+    let length = random.range(1, 2500);
     if random.one_in(6) {
         length * 11
     } else {
@@ -186,122 +204,85 @@ fn road_length(random: &mut Random) -> u32 {
 }
 
 /// Returns each edge and its reverse, edge by edge.
-fn both_ways(edges: &[Edge]) -> Vec<Edge> {
-    let both = |&(u, v, w): &Edge| [(u, v, w), (v, u, w)];
-    edges.iter().flat_map(both).collect()
+fn both_ways(edges: &[Arc]) -> Vec<Arc> {
+    edges.iter().flat_map(|&[u, v, w]| [[u, v, w], [v, u, w]]).collect()
 }
 
 fn road(text: &mut Text, random: &mut Random, n: u64, order: &str) {
-    let (nodes, mut edges) = road_edges(n, random);
-    let mut arcs;
+    let (nodes, mut edges) = road_edges(if order == "twice" { n / 2 } else { n }, random);
+    if order == "pairs" {
+        // blocks of edges out of order, as files gathered county by county have them
+        let mut blocks: Vec<&mut [Arc]> = edges.chunks_mut(400).collect();
+        random.shuffle(&mut blocks);
+        blocks.iter_mut().for_each(|block| random.shuffle(block));
+        edges = blocks.concat();
+    }
+    let mut arcs = both_ways(&edges);
     match order {
-        "pairs" => {
-            // blocks of edges out of order, as files gathered county by county have them
-            let mut blocks: Vec<&mut [Edge]> = edges.chunks_mut(400).collect();
-            random.shuffle(&mut blocks);
-            arcs = Vec::new();
-            for block in blocks {
-                random.shuffle(block);
-                arcs.extend(both_ways(block));
-            }
-        }
-        "shuffled" => {
-            arcs = both_ways(&edges);
-            random.shuffle(&mut arcs);
-        }
+        "pairs" => {}
+        "shuffled" => random.shuffle(&mut arcs),
+        _ => arcs.sort_unstable(),
+    }
+    match order {
+        "descending" => arcs.reverse(),
         "twice" => {
-            arcs = both_ways(&edges);
-            arcs.sort_unstable();
-            let mut again: Vec<Edge> = arcs
-                .iter()
-                .map(|&(u, v, _)| (u, v, road_length(random)))
-                .collect();
+            let mut again: Vec<Arc> = arcs.iter().map(|&[u, v, _]| [u, v, road_length(random)]).collect();
             random.shuffle(&mut again);
             arcs.extend(again);
         }
-        _ => {
-            arcs = both_ways(&edges);
-            arcs.sort_unstable();
-            if order == "descending" {
-                arcs.reverse();
-            }
-        }
+        _ => {}
     }
     text.comment("generated: road-like grid");
     text.comment("");
     text.row("p sp", &[nodes, arcs.len() as i64], "");
-    text.comment(&format!(
-        "graph contains {} nodes and {} arcs",
-        nodes,
-        arcs.len()
-    ));
+    text.comment(&format!("graph contains {} nodes and {} arcs", nodes, arcs.len()));
     text.comment("");
-    for (u, v, w) in arcs {
-        text.row("a", &[u as i64, v as i64, w as i64], "");
-    }
+    text.rows("a", &arcs);
 }
 
 fn multi(text: &mut Text, random: &mut Random, n: u64) {
-    let nodes = (n / 40).max(1);
+    let nodes = (n / 40).max(1) as i64;
     let mut arcs = Vec::with_capacity(n as usize);
     for _ in 0..(n / 10).max(1) {
-        let (u, v) = (1 + random.below(nodes), 1 + random.below(nodes));
-        for _ in 0..10 {
-            arcs.push((u as u32, v as u32, random.range(-50, 1_000_000) as i32));
-        }
+        let (u, v) = (random.range(1, nodes), random.range(1, nodes));
+        arcs.extend((0..10).map(|_| [u, v, random.range(-50, 1_000_000)]));
     }
     random.shuffle(&mut arcs);
     text.comment("generated: many parallel arcs");
-    text.row("p sp", &[nodes as i64, arcs.len() as i64], "");
-    for (u, v, w) in arcs {
-        text.row("a", &[u as i64, v as i64, w as i64], "");
-    }
+    text.graph("sp", nodes, &[], &arcs);
 }
 
 fn max(text: &mut Text, random: &mut Random, n: u64) {
     // b frames of a*a nodes; per node about 4 arcs within the frame and 1 between frames
     let (least, most) = (1, 1000);
     let per = (n as f64 / 5.0).max(8.0);
-    let a = (per.cbrt() as u64).max(2);
-    let b = ((per / (a * a) as f64).ceil() as u64).max(2);
-    let id = |frame: u64, y: u64, x: u64| (frame * a * a + y * a + x + 1) as i64;
-    let inside = most * (a * a) as i64;
+    let a = (per.cbrt() as i64).max(2);
+    let b = ((per / (a * a) as f64).ceil() as i64).max(2);
+    let id = |frame: i64, y: i64, x: i64| frame * a * a + y * a + x + 1;
+    let inside = most * a * a;
     let mut arcs = Vec::with_capacity(n as usize);
-    let mut to: Vec<u64> = (0..a * a).collect();
+    let mut to: Vec<i64> = (0..a * a).collect();
     for frame in 0..b {
-        for y in 0..a {
-            for x in 0..a {
-                if x + 1 < a {
-                    arcs.push((id(frame, y, x), id(frame, y, x + 1), inside));
-                    arcs.push((id(frame, y, x + 1), id(frame, y, x), inside));
-                }
-                if y + 1 < a {
-                    arcs.push((id(frame, y, x), id(frame, y + 1, x), inside));
-                    arcs.push((id(frame, y + 1, x), id(frame, y, x), inside));
-                }
+        for (y, x) in (0..a).flat_map(|y| (0..a).map(move |x| (y, x))) {
+            let beside = [(x + 1 < a, id(frame, y, x + 1)), (y + 1 < a, id(frame, y + 1, x))];
+            for (_, v) in beside.into_iter().filter(|it| it.0) {
+                arcs.extend(both_ways(&[[id(frame, y, x), v, inside]]));
             }
         }
         if frame + 1 < b {
             random.shuffle(&mut to);
-            for i in 0..a * a {
-                let (u, v) = (id(frame, 0, i), id(frame + 1, 0, to[i as usize]));
-                arcs.push((u, v, random.range(least, most)));
+            for (u, &v) in (0..).zip(&to) {
+                let (u, v) = (id(frame, 0, u), id(frame + 1, 0, v));
+                arcs.push([u, v, random.range(least, most)]);
                 if random.one_in(20) {
-                    arcs.push((u, v, random.range(0, most)));
+                    arcs.push([u, v, random.range(0, most)]);
                 }
             }
         }
     }
     random.shuffle(&mut arcs);
-    text.comment(&format!(
-        "generated: rmf-like, a {a} b {b} c1 {least} c2 {most}"
-    ));
-    text.row("p max", &[(a * a * b) as i64, arcs.len() as i64], "");
-    text.row("n", &[1], "s");
-    text.row("n", &[(a * a * b) as i64], "t");
-    for (u, v, w) in arcs {
-        text.row("a", &[u, v, w], "");
-    }
+    text.comment(&format!("generated: rmf-like, a {a} b {b} c1 {least} c2 {most}"));
+    text.graph("max", a * a * b, &[], &arcs);
 }
 
 /// Paths from sources to sinks carry a flow within LOW and CAP. The supplies follow from it, so the
@@ -318,23 +299,11 @@ fn min(text: &mut Text, random: &mut Random, n: u64) {
         supply[at as usize] += flow;
         supply[end as usize] -= flow;
         for hop in (0..random.range(2, 6)).rev() {
-            let next = if hop == 0 {
-                end
-            } else {
-                random.range(1, nodes)
-            };
+            let next = if hop == 0 { end } else { random.range(1, nodes) };
             let mut left = flow;
             while left > 0 {
-                let part = if random.one_in(3) {
-                    random.range(1, left)
-                } else {
-                    left
-                };
-                let low = if random.one_in(2) {
-                    random.range(0, part)
-                } else {
-                    0
-                };
+                let part = if random.one_in(3) { random.range(1, left) } else { left };
+                let low = if random.one_in(2) { random.range(0, part) } else { 0 };
                 let cap = part + random.range(0, 300);
                 arcs.push([at, next, low, cap, cost(random)]);
                 left -= part;
@@ -353,7 +322,19 @@ fn min(text: &mut Text, random: &mut Random, n: u64) {
     }
     random.shuffle(&mut arcs);
     text.comment("generated: netgen-like, feasible, with lower bounds and parallel arcs");
-    min_text(text, nodes, &supply, &arcs);
+    text.graph("min", nodes, &supplies(&supply), &arcs);
+}
+fn cost(random: &mut Random) -> i64 {
+    if random.one_in(10) {
+        -random.range(1, 50)
+    } else {
+        random.range(0, 1000)
+    }
+}
+
+/// Returns the nodes whose supply, by their IDs, is not 0.
+fn supplies(supply: &[i64]) -> Vec<[i64; 2]> {
+    (0..).zip(supply).map(|(id, &flow)| [id, flow]).filter(|it| it[1] != 0).collect()
 }
 
 /// A chain of arcs carries the flow of each source to a sink, and random arcs leave each node of
@@ -386,56 +367,28 @@ fn netgen(text: &mut Text, random: &mut Random, n: u64) {
             for _ in 1..8 {
                 let head = random.range(ends + 1, nodes);
                 for _ in 0..if random.one_in(50) { 2 } else { 1 } {
-                    let (cap, cost) = (random.range(1, 1000), random.range(1, 1000));
-                    arcs.push([tail, head, 0, cap, cost]);
+                    arcs.push([tail, head, 0, random.range(1, 1000), random.range(1, 1000)]);
                 }
             }
         }
     }
     text.comment("generated: netgen-like, feasible, arcs grouped by tail");
-    min_text(text, nodes, &supply, &arcs);
-}
-
-/// The lines of a `min` text, with a node line for each supply that is not 0.
-fn min_text(text: &mut Text, nodes: i64, supply: &[i64], arcs: &[[i64; 5]]) {
-    text.row("p min", &[nodes, arcs.len() as i64], "");
-    for id in 1..=nodes {
-        if supply[id as usize] != 0 {
-            text.row("n", &[id, supply[id as usize]], "");
-        }
-    }
-    for arc in arcs {
-        text.row("a", arc, "");
-    }
-}
-fn cost(random: &mut Random) -> i64 {
-    if random.one_in(10) {
-        -random.range(1, 50)
-    } else {
-        random.range(0, 1000)
-    }
+    text.graph("min", nodes, &supplies(&supply), &arcs);
 }
 
 fn points(text: &mut Text, random: &mut Random, ids: &[i64]) {
-    text.comment("generated: coordinates");
-    text.row("p aux sp co", &[ids.len() as i64], "");
-    for &id in ids {
-        let x = random.range(-124_000_000, -67_000_000);
-        let y = random.range(25_000_000, 49_000_000);
-        text.row("v", &[id, x, y], "");
-    }
+    let mut point = |&id| [id, random.range(-124_000_000, -67_000_000), random.range(25_000_000, 49_000_000)];
+    let items: Vec<[i64; 3]> = ids.iter().map(&mut point).collect();
+    text.companion("generated: coordinates", "co", "v", &items);
 }
 
 fn queries(text: &mut Text, random: &mut Random, n: u64, kind: &str) {
     let nodes = (n / 3).max(1) as i64;
-    text.comment("generated: queries");
-    text.row(&format!("p aux sp {kind}"), &[(n / 4) as i64], "");
-    for _ in 0..n / 4 {
-        let (u, v) = (random.range(1, nodes), random.range(1, nodes));
-        match kind {
-            "ss" => text.row("s", &[u], ""),
-            _ => text.row("q", &[u, v], ""),
-        }
+    let pairs: Vec<[i64; 2]> = (0..n / 4).map(|_| [random.range(1, nodes), random.range(1, nodes)]).collect();
+    let sources: Vec<[i64; 1]> = pairs.iter().map(|pair| [pair[0]]).collect();
+    match kind {
+        "ss" => text.companion("generated: queries", kind, "s", &sources),
+        _ => text.companion("generated: queries", kind, "q", &pairs),
     }
 }
 
@@ -502,9 +455,7 @@ fn colliding(random: &mut Random, n: u64) -> Vec<Pair> {
                 let dst = ((both ^ src_low) & HALF) << 32 | dst_low;
                 let tail = (both ^ dst.rotate_left(32)).wrapping_mul(tail_back) as i64;
                 let head = dst.wrapping_mul(head_back) as i64;
-                let off = (4u64.wrapping_mul(tail as u64))
-                    .wrapping_add(head as u64)
-                    .wrapping_sub(SUM);
+                let off = (4u64.wrapping_mul(tail as u64)).wrapping_add(head as u64).wrapping_sub(SUM);
                 if off << 24 == 0 && tail > 0 && head > 0 {
                     break 'search (tail, head);
                 }
@@ -528,11 +479,8 @@ fn hubs(random: &mut Random, n: u64, kind: &str) -> Vec<Pair> {
     let mut edges = Vec::new();
     for v in 2..=nodes {
         for _ in 0..3 {
-            let u = if random.one_in(10) {
-                random.range(1, v - 1)
-            } else {
-                ends[random.below(ends.len() as u64) as usize]
-            };
+            let u =
+                if random.one_in(10) { random.range(1, v - 1) } else { ends[random.below(ends.len() as u64) as usize] };
             if u != v {
                 edges.push((u, v));
                 ends.extend([u, v]);
@@ -540,13 +488,11 @@ fn hubs(random: &mut Random, n: u64, kind: &str) -> Vec<Pair> {
         }
     }
     let mut pairs = reversed_too(&edges);
-    match kind {
-        "shuffled" => random.shuffle(&mut pairs),
-        "rising" => {
-            random.shuffle(&mut pairs);
-            pairs.sort_by_key(|pair| pair.0);
-        }
-        _ => {}
+    if kind != "hubs-pairs" {
+        random.shuffle(&mut pairs);
+    }
+    if kind == "hubs" {
+        pairs.sort_by_key(|pair| pair.0);
     }
     pairs
 }
@@ -555,114 +501,87 @@ fn hubs(random: &mut Random, n: u64, kind: &str) -> Vec<Pair> {
 /// blocks of 64.
 fn ring(random: &mut Random, n: u64, degree: i64) -> Vec<Pair> {
     let nodes = (n as i64 / degree).max(degree + 1);
-    let edges: Vec<Pair> = (1..=nodes)
-        .flat_map(|u| (1..=degree / 2).map(move |k| (u, (u + k - 1) % nodes + 1)))
-        .collect();
+    let edges: Vec<Pair> =
+        (1..=nodes).flat_map(|u| (1..=degree / 2).map(move |k| (u, (u + k - 1) % nodes + 1))).collect();
     let mut blocks: Vec<&[Pair]> = edges.chunks(64).collect();
     random.shuffle(&mut blocks);
     reversed_too(&blocks.concat())
 }
 
-/// Returns the pairs of a ring of degree 10, and then the same pairs again in random order.
-fn again(random: &mut Random, n: u64) -> Vec<Pair> {
-    let first = ring(random, n / 2, 10);
-    let mut second = first.clone();
-    random.shuffle(&mut second);
-    [first, second].concat()
-}
-
-/// Writes arcs of adversarial pairs, with random lengths.
-fn hostile_sp(text: &mut Text, random: &mut Random, kind: &str, n: u64) {
+/// Writes arcs of pairs that are chosen, with random lengths.
+fn sp(text: &mut Text, random: &mut Random, kind: &str, n: u64) {
     let count = n.max(1) as i64;
     let pairs = match kind {
-        "falling" => (0..count).rev().map(|i| (1 + i / 4, 1 + i % 4)).collect(),
-        "alternating" => alternating(count).collect(),
-        "onepair" => vec![(1, 2); n as usize],
-        "star" => {
+        "hubs" | "hubs-shuffled" | "hubs-pairs" => hubs(random, n, kind),
+        "sp-falling" => (0..count).rev().map(|i| (1 + i / 4, 1 + i % 4)).collect(),
+        "sp-alternating" => alternating(count).collect(),
+        "sp-onepair" => vec![(1, 2); n as usize],
+        "sp-star" => {
             let mut pairs: Vec<Pair> = (1..=count).map(|head| (1, head)).collect();
             random.shuffle(&mut pairs);
             pairs
         }
-        "ring4" => ring(random, n, 4),
-        "ring10" => ring(random, n, 10),
-        "ring16" => ring(random, n, 16),
-        "again" => again(random, n),
-        "dense" => {
+        "sp-ring4" => ring(random, n, 4),
+        "sp-ring10" => ring(random, n, 10),
+        "sp-ring16" => ring(random, n, 16),
+        "sp-again" => {
+            let first = ring(random, n / 2, 10);
+            let mut second = first.clone();
+            random.shuffle(&mut second);
+            [first, second].concat()
+        }
+        "sp-dense" => {
             let side = (1..).take_while(|it| it * it <= n).count() as i64;
             let column = |head| (1..=side).map(move |tail| (tail, head));
             (1..=side).flat_map(column).collect()
         }
-        "multiples" => random_pairs(random, n, count, |i| i * 1024),
-        "far" => random_pairs(random, n, count, |i| (1 << 40) + i),
-        "far-multiples" => random_pairs(random, n, count.min(1 << 22), |i| i << 40),
-        "sparse" => random_pairs(random, n, i64::MAX - 1, |i| i),
-        "collide-first" => one_sum(random, count),
-        "collide" => colliding(random, n),
-        "collide-late" => {
-            let mut pairs = random_pairs(random, n - n / 2, count, |i| i);
-            pairs.extend(colliding(random, n / 2));
-            pairs
+        "sp-multiples" => random_pairs(random, n, count, |i| i * 1024),
+        "sp-far" => random_pairs(random, n, count, |i| (1 << 40) + i),
+        "sp-far-multiples" => random_pairs(random, n, count.min(1 << 22), |i| i << 40),
+        "sp-sparse" => random_pairs(random, n, i64::MAX - 1, |i| i),
+        "sp-collide-first" => one_sum(random, count),
+        "sp-collide" => colliding(random, n),
+        "sp-collide-late" => {
+            let pairs = random_pairs(random, n - n / 2, count, |i| i);
+            [pairs, colliding(random, n / 2)].concat()
         }
         _ => unknown(kind),
     };
     let nodes = match kind {
-        "sparse" | "collide" | "collide-late" => i64::MAX,
-        _ => pairs
-            .iter()
-            .map(|pair| pair.0.max(pair.1))
-            .max()
-            .unwrap_or(1),
+        "sp-sparse" | "sp-collide" | "sp-collide-late" => i64::MAX,
+        _ => pairs.iter().map(|pair| pair.0.max(pair.1)).max().unwrap_or(1),
     };
-    write_pairs(text, random, nodes, &pairs);
+    let arcs: Vec<Arc> = pairs.iter().map(|&(tail, head)| [tail, head, random.range(0, 999_999)]).collect();
+    text.graph("sp", nodes, &[], &arcs);
 }
 
-/// Writes arcs of these pairs, with random lengths.
-fn write_pairs(text: &mut Text, random: &mut Random, nodes: i64, pairs: &[Pair]) {
-    text.row("p sp", &[nodes, pairs.len() as i64], "");
-    for &(tail, head) in pairs {
-        text.row("a", &[tail, head, random.range(0, 999_999)], "");
-    }
-}
-
-fn hostile_max(text: &mut Text, random: &mut Random, n: u64) {
-    text.row("p max", &[2, n as i64], "");
-    text.row("n", &[1], "s");
-    text.row("n", &[2], "t");
-    for _ in 0..n {
-        text.row("a", &[1, 2, random.range(0, 1000)], "");
-    }
-}
-
-fn hostile_min(text: &mut Text, random: &mut Random, kind: &str, n: u64) {
+/// Writes arcs of one pair.
+fn one_pair(text: &mut Text, random: &mut Random, kind: &str, n: u64) {
     let mut costs: Vec<i64> = (0..n as i64).map(|i| i * 7 - 1_000_000).collect();
     match kind {
-        "onepair" => random.shuffle(&mut costs),
-        "falling" => costs.reverse(),
-        "one-cost" => costs.fill(7),
-        _ => unknown(kind),
+        "max-onepair" => {
+            let arcs: Vec<Arc> = (0..n).map(|_| [1, 2, random.range(0, 1000)]).collect();
+            return text.graph("max", 2, &[], &arcs);
+        }
+        "min-onepair" => random.shuffle(&mut costs),
+        "min-falling" => costs.reverse(),
+        _ => costs.fill(7),
     }
-    text.row("p min", &[2, n as i64], "");
-    for cost in costs {
+    let mut arc = |cost| {
         let low = random.range(0, 3);
-        text.row("a", &[1, 2, low, low + random.range(0, 1000), cost], "");
-    }
-}
-
-fn nodes_falling(text: &mut Text, n: i64) {
-    text.row("p min", &[n.max(2), 1], "");
-    for id in (1..=n).rev() {
-        text.row("n", &[id, id % 4], "");
-    }
-    text.row("a", &[1, 2, 0, 1, 1], "");
+        [1, 2, low, low + random.range(0, 1000), cost]
+    };
+    let arcs: Vec<[i64; 5]> = costs.into_iter().map(&mut arc).collect();
+    text.graph("min", 2, &[], &arcs);
 }
 
 /// Writes a text of ten arcs in which something else is long.
 fn few_arcs(text: &mut Text, kind: &str, n: usize) {
     text.row("p sp", &[10, 10], "");
-    let (before, after) = match kind {
-        "long-blanks" => ("a 10 1", " 10\n"),
-        "long-number" => ("a 10 1 ", "10\n"),
-        _ => ("", "a 10 1 10\n"),
+    let filling = match kind {
+        "long-blanks" => " ".repeat(n),
+        "long-number" => "0".repeat(n),
+        _ => String::new(),
     };
     match kind {
         "comments" => (0..n).for_each(|i| text.comment(&format!("line {i}"))),
@@ -670,13 +589,7 @@ fn few_arcs(text: &mut Text, kind: &str, n: usize) {
         "long-comment" => text.comment(&"x".repeat(n)),
         _ => {}
     }
-    text.raw(before.as_bytes());
-    match kind {
-        "long-blanks" => text.raw(&vec![b' '; n]),
-        "long-number" => text.raw(&vec![b'0'; n]),
-        _ => {}
-    }
-    text.raw(after.as_bytes());
+    text.raw(format!("a 10 1 {filling}10\n").as_bytes());
     for u in (1..10).rev() {
         text.row("a", &[u, 11 - u, u], "");
     }
@@ -688,9 +601,7 @@ fn unknown(kind: &str) -> ! {
 }
 
 fn main() {
-    let (flags, words): (Vec<String>, Vec<String>) = std::env::args()
-        .skip(1)
-        .partition(|word| word.starts_with("--"));
+    let (flags, words): (Vec<String>, Vec<String>) = std::env::args().skip(1).partition(|word| word.starts_with("--"));
     if words.len() < 2 {
         eprintln!("usage: generate KIND N [SEED] [--noise] [--odd]");
         std::process::exit(3);
@@ -705,45 +616,30 @@ fn main() {
         noise: flags.iter().any(|flag| flag == "--noise"),
         odd: flags.iter().any(|flag| flag == "--odd"),
     };
-    let rising = |count: u64| (1..=count as i64).collect::<Vec<i64>>();
+    let mut ids: Vec<i64> = (1..=n as i64 / 4).collect();
     match words[0].as_str() {
         "road" => road(text, random, n, "rising"),
-        "road-pairs" => road(text, random, n, "pairs"),
-        "road-shuffled" => road(text, random, n, "shuffled"),
-        "road-descending" => road(text, random, n, "descending"),
-        "road-twice" => road(text, random, n / 2, "twice"),
-        "hubs" | "hubs-shuffled" | "hubs-pairs" => {
-            let order = words[0].strip_prefix("hubs-").unwrap_or("rising");
-            let pairs = hubs(random, n, order);
-            let nodes = pairs.iter().map(|pair| pair.0).max().unwrap_or(1);
-            write_pairs(text, random, nodes, &pairs);
-        }
+        kind @ ("road-pairs" | "road-shuffled" | "road-descending" | "road-twice") => road(text, random, n, &kind[5..]),
         "multi" => multi(text, random, n),
         "max" => max(text, random, n),
         "min" => min(text, random, n),
         "min-netgen" => netgen(text, random, n),
-        "co" => points(text, random, &rising(n / 4)),
+        "co" => points(text, random, &ids),
         "co-shuffled" => {
-            let mut ids = rising(n / 4);
             random.shuffle(&mut ids);
             points(text, random, &ids);
         }
-        "ss" | "p2p" => queries(text, random, n, &words[0]),
-        "max-onepair" => hostile_max(text, random, n),
-        "min-nodes-falling" => nodes_falling(text, n as i64),
-        "co-falling" => {
-            let mut ids = rising(n);
-            ids.reverse();
-            points(text, random, &ids);
+        "co-falling" => points(text, random, &(1..=n as i64).rev().collect::<Vec<i64>>()),
+        kind @ ("ss" | "p2p") => queries(text, random, n, kind),
+        "min-nodes-falling" => {
+            let falling: Vec<[i64; 2]> = (1..=n as i64).rev().map(|id| [id, id % 4]).collect();
+            text.graph("min", n.max(2) as i64, &falling, &[[1, 2, 0, 1, 1]]);
         }
-        "comments" | "empty-lines" | "long-comment" | "long-blanks" | "long-number" => {
-            few_arcs(text, &words[0], n as usize)
+        kind @ ("max-onepair" | "min-onepair" | "min-falling" | "min-one-cost") => one_pair(text, random, kind, n),
+        kind @ ("comments" | "empty-lines" | "long-comment" | "long-blanks" | "long-number") => {
+            few_arcs(text, kind, n as usize)
         }
-        kind => match kind.split_once('-') {
-            Some(("sp", kind)) => hostile_sp(text, random, kind, n),
-            Some(("min", kind)) => hostile_min(text, random, kind, n),
-            _ => unknown(kind),
-        },
+        kind => sp(text, random, kind, n),
     }
     text.to.flush().unwrap();
 }

@@ -6,7 +6,7 @@ import re
 import shutil
 
 from known import CANONICAL, REFUSED
-from needs import leave_out, need
+from needs import leave_out, need, pass_over
 from shared import LIMIT, ROOT, Answer, run, said, within, write
 
 # A project that finds the library, in this version.
@@ -25,6 +25,39 @@ POINTS = b"p aux sp co 20000\n" + b"".join(b"v %d -%d 7\n" % (it, it) for it in 
 GIVEN = [(text, forms) for text, *forms in [*CANONICAL, (LARGE, LARGE, LARGE), (POINTS, POINTS, POINTS)]]
 # A number in the help, with its name and its sentence, which may go on in the next line.
 IN_HELP = re.compile(r"^ {2,3}(\d+) (\w+) {2,}(.+(?:\n {22}.+)*)$", re.M)
+
+
+# The solvers in c/examples, with what compiles each.
+SOLVERS = {
+    "cost_scaling.c": ["cc", "-std=c99"],
+    "dijkstra.c": ["cc", "-std=c99"],
+    "least_cost.cc": ["c++", "-std=c++17"],
+}
+
+
+def solver(name: str, library: str, folder: str) -> str:
+    """Returns a solver of c/examples, built with the archive below a prefix. One needs LEMON."""
+    if name == "least_cost.cc" and not os.path.exists("/usr/include/lemon/network_simplex.h"):
+        leave_out("LEMON")
+    made = f"{folder}/{name}.out"
+    words = [f"-I{library}/include", "-o", made, f"{ROOT}/c/examples/{name}", f"{library}/lib/libdnorm.a"]
+    compiled(*SOLVERS[name], *words)
+    return made
+
+
+def by_rustc(library: str, folder: str, *programs: str) -> None:
+    """Builds the crates for Rust and these programs in a folder, by rustc alone."""
+    if not shutil.which("rustc"):
+        # tools/setup does not install Rust.
+        pass_over("rustc")
+    rustc = ["rustc", "--edition=2021", "-O", "-Dwarnings", "-L", folder, "--out-dir", folder]
+    native, crates = ["-L", f"native={library}/lib", "-l", "static=dnorm"], f"{ROOT}/share/rust"
+    for words in [
+        ["--crate-type=rlib", "--crate-name=dnorm_sys", *native, f"{crates}/dnorm-sys/src/lib.rs"],
+        ["--crate-type=rlib", "--crate-name=dnorm", "--extern=dnorm_sys", f"{crates}/dnorm/src/lib.rs"],
+        *(["--extern=dnorm", it] for it in programs),
+    ]:
+        assert run([*rustc, *words]) == said(), words
 
 
 def with_little_memory(program: str) -> list[Answer | None]:

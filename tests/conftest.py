@@ -10,12 +10,12 @@ from typing import TextIO
 
 import pytest
 from needs import leave_out
-from shared import ENDING, ROOT, Quick, exit_by, program_at, run
+from shared import ENDING, ROOT, Quick, exit_by, program_at, run, said
 
 # The package for Python, and the cases of the conformance suite, which some tests import.
 sys.path[:0] = [f"{ROOT}/python/src", f"{ROOT}/tests/conformance"]
 PREFIX = f"{ROOT}/c/out"
-LIBRARY = f"{PREFIX}/lib/libdnorm.so.2"
+LIBRARY = f"{PREFIX}/lib/libdnorm.so.3"
 # The file that a test locks while it runs.
 LOCK = pytest.StashKey[TextIO]()
 
@@ -68,6 +68,14 @@ def often(tested: str) -> Quick:
 
 
 @pytest.fixture(scope="session")
+def made(tested: str, tmp_path_factory: pytest.TempPathFactory) -> str:
+    """The folder of the files of a release that git does not have."""
+    folder = str(tmp_path_factory.mktemp("made"))
+    assert run([sys.executable, f"{ROOT}/tools/generate", folder, tested]) == said()
+    return folder
+
+
+@pytest.fixture(scope="session")
 def c_library() -> str:
     """The prefix below which the library for C is, which tests/run has built first."""
     status = os.environ.get("DNORM_C_LIBRARY") or str(run([f"{ROOT}/tools/c-library"], limit=None).status)
@@ -87,7 +95,7 @@ def folder(tmp_path: os.PathLike[str], monkeypatch: pytest.MonkeyPatch) -> str:
 @pytest.fixture
 def heeded() -> Iterator[None]:
     """Lets the programs that the test starts heed signals, even if this process ignores them, as by nohup."""
-    kept = {it: signal.signal(it, exit_by) for it in ENDING}
+    kept = {it: signal.signal(it, exit_by) for it in (*ENDING, signal.SIGQUIT)}
     yield
     for it, handler in kept.items():
         signal.signal(it, handler)

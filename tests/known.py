@@ -1,29 +1,38 @@
 """Small texts with known answers: what each command prints for them, and the statuses. CANONICAL, COMPARED and REFUSED
-take a text that is a case of cases.json from there, and REFUSED has the texts of examples/refused/, too."""
+have some cases of cases.json, and REFUSED has the texts of examples/refused/, too."""
 
 import os
-from collections.abc import Iterator
+import re
+from collections import Counter
+from collections.abc import Callable, Iterator
 from typing import Any, NamedTuple
 
 from refusal_table import place_of
 from shared import ROOT, text_of
-from suite import cases
+from suite import Case, cases, told
 from suite import texts as texts_of
 
 EXAMPLES = f"{ROOT}/examples/refused"
 # The arguments of a run, the texts by their names, the standard output and standard error, and the status.
 Run = tuple[str, dict[str, bytes], bytes, bytes, int]
-CASES = {it["id"]: texts_of(it) for it in cases()}
+CASES = [it for it in cases() if it["rule"] != "long"]
+# What differs between texts of one verdict, without the numbers.
+SHAPE = re.compile(r"-?\d+")
 
 
-def case(name: str) -> bytes:
-    """Returns the text of a case of cases.json."""
-    return CASES[name][0].encode("latin-1")
+def first(key: Callable[[Case], Any], count: int = 1, **more: int) -> Iterator[Case]:
+    """Yields the first cases of each key, so many, or more of some; none of those with an empty key."""
+    seen = Counter[str]()
+    for case in CASES:
+        name = key(case)
+        if name and seen[name] < more.get(name, count):
+            seen[name] += 1
+            yield case
 
 
-def pair(name: str) -> tuple[bytes, bytes]:
-    """Returns both texts of a case of cases.json."""
-    return case(name), CASES[name][1].encode("latin-1")
+def of(case: Case) -> list[bytes]:
+    """Returns the texts of a case."""
+    return [it.encode("latin-1") for it in texts_of(case)]
 
 
 def examples() -> Iterator[tuple[bytes, bytes]]:
@@ -47,20 +56,14 @@ def runs(*given: tuple[Any, ...]) -> list[Run]:
     return whole
 
 
-def in_both(*given: tuple[bytes, ...]) -> list[tuple[bytes, bytes, bytes]]:
-    """Returns texts with their canonical texts in form 1 and in form 2, from rows that say equal ones once."""
-    return [(row[0], row[1], row[-1]) for row in given]
-
-
-def in_both_orders(*given: tuple[bytes, bytes, bytes]) -> list[tuple[bytes, bytes, bytes, bytes]]:
-    """Returns two texts with their verdicts in both orders, from rows with the first one. If the sides are exchanged,
-    so are the last two words, unless these are the place of an item or a point."""
-    whole = []
-    for left, right, there in given:
+def in_both_orders() -> Iterator[tuple[bytes, bytes, bytes, bytes]]:
+    """Yields two texts with their verdicts in both orders. If the sides are exchanged, so are the last two words,
+    unless these are the place of an item or a point."""
+    for case in first(lambda it: SHAPE.sub("", it.get("verdict", "same").removeprefix("same")), 2):
+        (left, right), there = of(case), f"{case['verdict']}\n".encode()
         *head, a, b = there.split()
         back = b" ".join([*head, b, a]) + b"\n" if len(head) > 1 else there
-        whole.append((left, right, there, back))
-    return whole
+        yield left, right, there, back
 
 
 # Parallel arcs, both directions, a self-loop and a negative length; and the canonical text.
@@ -69,14 +72,14 @@ ROADS_CANON = b"p sp 3 5\na 1 2 3\na 2 1 4\na 2 2 0\na 2 3 9\na 3 1 -5\n"
 # An arc of capacity 0, two parallel arcs, and the sink before the source.
 CAPACITIES = b"p max 3 4\nn 3 t\nn 1 s\na 2 3 0\na 1 2 4\na 1 3 2\na 1 2 5\n"
 # Forced units and free capacity; and the canonical texts in form 1 and in form 2.
-COSTS = case("forced-remainder")
+COSTS = next(of(it)[0] for it in CASES if it["id"] == "forced-remainder")
 COSTS_ONE = b"p min 2 5\na 1 2 1 1 1\na 1 2 1 1 2\na 1 2 0 2 0\na 1 2 0 4 1\na 1 2 0 1 3\n"
 COSTS_TWO = b"p min 2 4\na 1 2 0 2 0\na 1 2 1 5 1\na 1 2 1 1 2\na 1 2 0 1 3\n"
 # A supply, a demand and a comment; and the canonical text.
 FLOWS = b"c sample\np min 4 5\nn 1 4\nn 4 -4\na 1 2 0 4 2\na 1 3 0 2 2\na 2 3 0 2 1\na 2 4 0 3 3\na 3 4 0 5 1\n"
 FLOWS_CANON = b"p min 4 5\nn 1 4\nn 4 -4\na 1 2 0 4 2\na 1 3 0 2 2\na 2 3 0 2 1\na 2 4 0 3 3\na 3 4 0 5 1\n"
 # Capacities of one pair that sum past the limit.
-FULL = case("sum-above-max")
+FULL = next(of(it)[0] for it in CASES if it["id"] == "sum-above-max")
 
 # Runs of `show`. Standard input is the text that is named `-`.
 SHOWN = runs(
@@ -211,158 +214,17 @@ OTHERS = runs(
     ("canon g.gr g.gr", ROADS, b"", b"dnorm: bad command line\n", 3),
 )
 
-# Texts, and their canonical texts in form 1 and, if that is another, in form 2.
-CANONICAL = in_both(
-    (COSTS, COSTS_ONE, COSTS_TWO),
-    (
-        b"p min 2 7\na 1 2 0 1 3\na 1 2 0 3 1\na 1 2 1 1 4\na 1 2 0 1 0\na 1 2 0 1 1\na 1 2 1 1 -1\na 1 2 0 1 0\n",
-        COSTS_ONE,
-        COSTS_TWO,
-    ),
-    (case("pair-self-loop-min"), b"p min 1 2\na 1 1 2 2 -4\na 1 1 0 3 -4\n", b"p min 1 1\na 1 1 2 5 -4\n"),
-    (case("form-itself"), b"p min 2 2\na 1 2 3 3 2\na 1 2 0 3 2\n", b"p min 2 1\na 1 2 3 6 2\n"),
-    (
-        case("forced-beside-free"),
-        b"p min 2 4\na 1 2 1 1 0\na 1 2 1 1 1\na 1 2 0 1 0\na 1 2 0 2 1\n",
-        b"p min 2 2\na 1 2 1 2 0\na 1 2 1 3 1\n",
-    ),
-    (case("form-wide-cap"), b"p min 2 1\na 1 2 0 9223372036854775807 9223372036854775807\n"),
-    (b"p sp 0 0", b"p sp 0 0\n"),
-    (
-        b"c sample in the manner of the road graphs\r\nc\r\np sp 3 4\r\n\r\na 1 2 803\r\na\t2\t1 803\r\n"
-        b"  a  2 3 158 \r\na 3 2 158",
-        b"p sp 3 4\na 1 2 803\na 2 1 803\na 2 3 158\na 3 2 158\n",
-    ),
-    (FLOWS, FLOWS_CANON),
-    (ROADS, ROADS_CANON),
-    (CAPACITIES, b"p max 3 2\nn 1 s\nn 3 t\na 1 2 9\na 1 3 2\n"),
-    (case("sum-zero-max"), b"p max 2 1\nn 1 s\nn 2 t\na 1 2 9223372036854775807\n"),
-    (case("forced-negative"), b"p min 2 2\na 1 2 1 1 -2\na 1 2 1 1 -1\n"),
-    (b"p min 2 2\nn 2 0\na 1 2 0 0 5\na 2 1 0 3 1\n", b"p min 2 1\na 2 1 0 3 1\n"),
-    (b"p aux sp co 2\nv 3 -73530767 41085396\nv 1 5 -6\n", b"p aux sp co 2\nv 1 5 -6\nv 3 -73530767 41085396\n"),
-    (case("number-negative-zero"), b"p sp 0 0\n"),
-    (b"cab\np sp 1 0\n", b"p sp 1 0\n"),
-    (case("nothing-max"), b"p max 2 0\nn 2 s\nn 1 t\n"),
-    (b"p sp 2 1\na 1 2 +007\n", b"p sp 2 1\na 1 2 7\n"),
-    (b"p sp 2 1\na 1 2 -0\n", b"p sp 2 1\na 1 2 0\n"),
-    (
-        b"p sp 1 1\na 1 1 00000000000000000000000000000000000000009223372036854775807\n",
-        b"p sp 1 1\na 1 1 9223372036854775807\n",
-    ),
-    (
-        b"p sp 1 1\na 1 1 -00000000000000000000000000000000000000009223372036854775808\n",
-        b"p sp 1 1\na 1 1 -9223372036854775808\n",
-    ),
-    (case("forced-exact"), b"p min 2 1\na 1 2 2 2 2\n"),
-    (
-        case("forced-64-bits"),
-        b"p min 2 2\na 1 2 4611686018427387904 4611686018427387904 -2\n"
-        b"a 1 2 4611686018427387903 4611686018427387903 -1\n",
-    ),
-    (case("forced-least-cost"), b"p min 2 1\na 1 2 9223372036854775807 9223372036854775807 -9223372036854775808\n"),
-    (b"p aux sp ss 3\ns 5\ns 2\ns 5\n", b"p aux sp ss 3\ns 5\ns 2\ns 5\n"),
-    (b"p aux sp p2p 2\nq 9 1\nq 1 9\n", b"p aux sp p2p 2\nq 9 1\nq 1 9\n"),
-    (case("ninth-empty-ss"), b"p aux sp ss 0\n"),
-    (case("canon-great-nodes"), b"p min 9223372036854775807 0\nn 9223372036854775807 -9223372036854775808\n"),
-    (case("sum-reverse-min"), b"p min 2 2\na 1 2 0 9223372036854775807 1\na 2 1 0 1 9\n"),
-    (case("forced-greatest-cost"), b"p min 2 2\na 1 2 1 1 9223372036854775806\na 1 2 1 1 9223372036854775807\n"),
-    (b"p sp 1 1\na 1 1 -9223372036854775808\n", b"p sp 1 1\na 1 1 -9223372036854775808\n"),
-    (b"p sp 9223372036854775807 0\n", b"p sp 9223372036854775807 0\n"),
-)
-
-# A left text, a right text, and the line that `compare` prints.
-COMPARED = in_both_orders(
-    (ROADS, CAPACITIES, b"differ kind sp max\n"),
-    (*pair("differ-nodes"), b"differ nodes 3 4\n"),
-    (*pair("differ-kind-companion"), b"differ kind sp ss\n"),
-    (*pair("differ-supply"), b"differ supply 2 5 0\n"),
-    (b"p min 3 0\nn 3 5\nn 2 1\n", b"p min 3 0\nn 3 6\nn 2 -1\n", b"differ supply 2 1 -1\n"),
-    (b"p min 3 0\nn 3 5\n", b"p min 3 0\nn 2 1\nn 3 5\n", b"differ supply 2 0 1\n"),
-    (*pair("differ-source"), b"differ source 1 2\n"),
-    (*pair("differ-sink"), b"differ sink 3 2\n"),
-    (*pair("differ-items"), b"differ length 3 2\n"),
-    (b"p aux sp ss 3\ns 5\ns 2\ns 5\n", b"p aux sp ss 3\ns 5\ns 3\ns 5\n", b"differ item 2\n"),
-    (*pair("differ-item-order"), b"differ item 1\n"),
-    (b"p aux sp p2p 1\nq 1 9\n", b"p aux sp p2p 2\nq 1 9\nq 1 9\n", b"differ length 1 2\n"),
-    (b"p aux sp p2p 2\nq 9 1\nq 1 9\n", b"p aux sp p2p 2\nq 9 1\nq 1 8\n", b"differ item 2\n"),
-    (b"p aux sp p2p 1\nq 9 1\n", b"p aux sp p2p 1\nq 1 9\n", b"differ item 1\n"),
-    (*pair("differ-point"), b"differ point 1\n"),
-    (b"p aux sp co 2\nv 7 1 2\nv 3 4 5\n", b"p aux sp co 2\nv 7 2 1\nv 3 5 4\n", b"differ point 3\n"),
-    (ROADS, b"p sp 3 4\na 1 2 3\na 2 1 4\na 2 3 9\na 3 1 -5\n", b"differ pair 2 2 length 0 none\n"),
-    (b"p sp 3 2\na 2 1 1\na 1 3 1\n", b"p sp 3 2\na 2 1 2\na 1 3 2\n", b"differ pair 1 3 length 1 2\n"),
-    (b"p sp 3 2\na 1 3 1\na 1 2 1\n", b"p sp 3 2\na 1 3 2\na 1 2 2\n", b"differ pair 1 2 length 1 2\n"),
-    (*pair("differ-pair-reverse"), b"differ pair 1 2 length none 1\n"),
-    (CAPACITIES, b"p max 3 2\nn 1 s\nn 3 t\na 1 3 2\na 1 1 4\n", b"differ pair 1 1 capacity 0 4\n"),
-    (*pair("differ-cost"), b"differ pair 1 2 amount 3 cost 6 3\n"),
-    (*pair("differ-cost-low"), b"differ pair 1 2 amount 0 cost none 0\n"),
-    (*pair("differ-cost-forced"), b"differ pair 1 2 amount 1 cost 4 5\n"),
-    (*pair("differ-cost-cap"), b"differ pair 1 2 amount 3 cost none 12\n"),
-    (*pair("differ-cost-none"), b"differ pair 1 2 amount 1 cost 4 none\n"),
-    (b"p min 2 0\n", b"p min 2 1\na 1 2 1 2 4\n", b"differ pair 1 2 amount 0 cost 0 none\n"),
-    (
-        b"p min 2 1\na 1 2 0 9223372036854775807 1\n",
-        b"p min 2 1\na 1 2 0 9223372036854775806 1\n",
-        b"differ pair 1 2 amount 9223372036854775807 cost 9223372036854775807 none\n",
-    ),
-)
-
+# Texts, and their canonical texts in form 1 and in form 2.
+CANONICAL = [(COSTS, COSTS_ONE, COSTS_TWO), (FLOWS, FLOWS_CANON, FLOWS_CANON), (ROADS, ROADS_CANON, ROADS_CANON)]
+for one in first(lambda it: it["rule"] if "canon" in it else "", ninth=4, forced=8):
+    made = [it.encode() for it in told(one)["canon"]]
+    CANONICAL.append((of(one)[0], made[0], made[-1]))
+# A left text, a right text, and the line that `compare` prints, in both orders.
+COMPARED = [*in_both_orders()]
 # Texts, and the line of the refusal of a text that is named `t`.
-REFUSED = [
-    *examples(),
-    (case("refusal-18-empty"), b"t:end: 18 NoProblem\n"),
-    (case("line-number-first"), b"t:1: 1 BadLine\n"),
-    (b"x", b"t:1: 1 BadLine\n"),
-    (case("keyword-longer-p"), b"t:1: 1 BadLine\n"),
-    (case("line-number-after-blank"), b"t:3: 1 BadLine\n"),
-    (case("left-out-bom"), b"t:1: 1 BadLine\n"),
-    (b"a 1 2 3\n", b"t:1: 2 EarlyLine\n"),
-    (case("refusal-3-sp"), b"t:2: 3 SecondProblem\n"),
-    (b"p asn 2 2\n", b"t:1: 4 UnknownProblem\n"),
-    (case("refusal-4-alone"), b"t:1: 4 UnknownProblem\n"),
-    (case("refusal-4-aux-sp"), b"t:1: 4 UnknownProblem\n"),
-    (b"p SP 0 0\n", b"t:1: 4 UnknownProblem\n"),
-    (b"p sp 1 0\nn 1 1\n", b"t:2: 5 WrongLine\n"),
-    (b"p aux sp ss 1\nv 1 2 3\n", b"t:2: 5 WrongLine\n"),
-    (case("refusal-6-min"), b"t:3: 6 LateNode\n"),
-    (b"p min 2 1\na 1 2 0 1 1\nn x\n", b"t:3: 6 LateNode\n"),
-    (b"p sp 2 1\na 1 2 1\na 1 2\n", b"t:3: 7 TooManyLines\n"),
-    (b"p aux sp ss 0\ns\n", b"t:2: 7 TooManyLines\n"),
-    (b"p sp 1\n", b"t:1: 8 FieldCount\n"),
-    (b"p sp 1 0 0\n", b"t:1: 8 FieldCount\n"),
-    (case("line-end-cr"), b"t:1: 8 FieldCount\n"),
-    (b"p sp 1 1\na 1 1\n", b"t:2: 8 FieldCount\n"),
-    (b"p sp 1 1\na 1 1\x0b1\n", b"t:2: 8 FieldCount\n"),
-    (b"p sp 1.5 0\n", b"t:1: 9 NotANumber\n"),
-    (b"p sp 9223372036854775808 x\n", b"t:1: 9 NotANumber\n"),
-    (case("number-empty-sign"), b"t:1: 9 NotANumber\n"),
-    (b"p sp 2 1\na 1 2 1.5\n", b"t:2: 9 NotANumber\n"),
-    (b"p sp 2 1\na 1 2 99999999999999999999x\n", b"t:2: 9 NotANumber\n"),
-    (b"p sp 2 1\na 9223372036854775808 2 x\n", b"t:2: 9 NotANumber\n"),
-    (b"p sp 1 1\na 1 1 +\n", b"t:2: 9 NotANumber\n"),
-    (b"p sp 1 1\na 1 1 1\x00\n", b"t:2: 9 NotANumber\n"),
-    (b"p sp 1 1\na 1 1 9999999999999999999999999999999999999999-\n", b"t:2: 9 NotANumber\n"),
-    (case("earliest-lower-later"), b"t:2: 9 NotANumber\n"),
-    (b"p sp 9223372036854775808 0\n", b"t:1: 10 OutOfRange\n"),
-    (b"p sp 1 1\na 1 1 9999999999999999999999999999999999999999\n", b"t:2: 10 OutOfRange\n"),
-    (b"p sp -1 0\n", b"t:1: 11 Negative\n"),
-    (b"p min 2 1\na 1 2 -1 3 0\n", b"t:2: 11 Negative\n"),
-    (b"p max 2 1\nn 0 x\n", b"t:2: 12 BadTerminal\n"),
-    (b"p sp 2 1\na 1 3 1\n", b"t:2: 13 NodeOutOfRange\n"),
-    (b"p max 2 1\nn 3 s\n", b"t:2: 13 NodeOutOfRange\n"),
-    (b"p aux sp ss 1\ns 0\n", b"t:2: 13 NodeOutOfRange\n"),
-    (case("supply-repeated-zero"), b"t:3: 14 RepeatedNode\n"),
-    (case("point-repeated-same"), b"t:3: 14 RepeatedNode\n"),
-    (b"p max 2 1\nn 1 s\nn 2 s\n", b"t:3: 14 RepeatedNode\n"),
-    (b"p max 2 1\nn 1 s\nn 1 s\n", b"t:3: 14 RepeatedNode\n"),
-    (b"p max 2 1\nn 1 s\nn 1 t\n", b"t:3: 15 SameTerminal\n"),
-    (case("sum-above-min"), b"t:3: 17 SumTooLarge\n"),
-    (b"c only\n\n", b"t:end: 18 NoProblem\n"),
-    (b"p max 2 1\nn 1 s\n", b"t:end: 19 MissingTerminal\n"),
-    (case("refusal-20-sp"), b"t:end: 20 TooFewLines\n"),
-    (case("refusal-20-no-lf"), b"t:end: 20 TooFewLines\n"),
-    (b"p aux sp co 1\n", b"t:end: 20 TooFewLines\n"),
-    (case("refusal-20-greatest"), b"t:end: 20 TooFewLines\n"),
-]
+REFUSED = [*examples()]
+for one in first(lambda it: it.get("refusal", "") if "text" in it and "with" not in it else "", 2):
+    REFUSED.append((of(one)[0], f"t:{one['place']}: {one['refusal']}\n".encode()))
 
 
 class Row(NamedTuple):

@@ -2,9 +2,10 @@
 run. What a tool takes from here it finds by adding tests/ to its path; no test imports a tool."""
 
 import contextlib
-import functools
+import glob
 import os
 import resource
+import shlex
 import signal
 import struct
 import subprocess
@@ -19,7 +20,7 @@ if sys.version_info < (3, 10):
 ROOT = os.path.dirname(os.path.dirname(os.path.realpath(__file__)))
 # A run that takes longer, in seconds, is ended and fails the test.
 LIMIT = 60
-# The page that tools/definitions makes for a release.
+# The page of the definitions, which a release has.
 DEFINITIONS = "docs/DEFINITIONS.md"
 # The signals that end a test as an exit does.
 ENDING = (signal.SIGINT, signal.SIGTERM, signal.SIGHUP)
@@ -95,35 +96,31 @@ def own_folder(name: str, place: str | None = None) -> Iterator[str]:
 
 def rows_of_list() -> list[list[str]]:
     """Returns the rows of share/installed.txt."""
-    with open(f"{ROOT}/share/installed.txt", encoding="utf-8") as lines:
-        return [line.split() for line in lines if not line.startswith("#")]
+    return [it.split() for it in text_of(f"{ROOT}/share/installed.txt").splitlines() if not it.startswith("#")]
 
 
 def listed() -> list[tuple[int, str, str]]:
     """Returns the files that share/installed.txt lists: modes, paths in the repository and paths below a prefix."""
-    return [(int(mode, 8), place, to) for mode, place, to in rows_of_list() if mode != "link"]
+    rows = [(mode, to, it) for mode, to, *names in rows_of_list() if mode != "link" for it in names]
+    # What git does not have stands there by its name.
+    found = {(mode, path, to) for mode, to, it in rows for path in glob.glob(it, root_dir=ROOT) or [it]}
+    return [(int(mode, 8), path, f"{to}/{os.path.basename(path)}") for mode, path, to in sorted(found)]
 
 
 def links_listed() -> dict[str, str]:
     """Returns the links that share/installed.txt lists: targets by paths below a prefix."""
-    return {to: target for mode, target, to in rows_of_list() if mode == "link"}
+    return {to: target for mode, to, target in (it[:3] for it in rows_of_list()) if mode == "link"}
 
 
-def source_of(place: str, tested: str) -> str:
-    """Returns the file that a listed path means in this repository, where the program is the tested one."""
+def source_of(place: str, tested: str, made: str = "") -> str:
+    """Returns the file that a listed path means in this repository, where the program is the tested one, and this
+    folder has what tools/generate makes."""
     if place == "dnorm":
         return tested
-    if place == DEFINITIONS:
-        make_page()
+    if made and os.path.exists(f"{made}/{place}"):
+        return f"{made}/{place}"
     # What tools/c-library makes.
     return f"{ROOT}/c/out/{place}" if place.startswith(("include/", "lib/")) else f"{ROOT}/{place}"
-
-
-@functools.cache
-def make_page() -> None:
-    """Makes the page of definitions, which Git does not have."""
-    made = subprocess.run([f"{ROOT}/tools/definitions", "--page"], capture_output=True, check=True)
-    write(f"{ROOT}/{DEFINITIONS}", made.stdout)
 
 
 def run(words: Words, given: bytes = b"", limit: float | None = LIMIT, **more: Any) -> Answer:
@@ -148,6 +145,26 @@ def least_level(is_enough: Callable[[int], bool]) -> int:
         level = (low + high) // 2
         low, high = (low, level) if is_enough(level) else (level, high)
     return high
+
+
+# What the `./dnorm` and the tools/program of a clone do, in sh, with the program P. Both write into a log that they
+# were called.
+CLONES = {
+    "a program": ('echo own >> log; exec "$P" "$@"', "echo found >> log; echo $P"),
+    "a program that is built first": (
+        "echo own >> log",
+        "echo found >> log; ! grep -q own log || echo $P; grep -q own log",
+    ),
+    "no program": ("echo own >> log; exit 125", "echo found >> log; exit 125"),
+}
+
+
+def clone_of(what: str, tested: str) -> None:
+    """Makes one of these clones in a folder clone/."""
+    os.makedirs("clone/tools")
+    for path, does in zip(["clone/dnorm", "clone/tools/program"], CLONES[what]):
+        write(path, f"#!/bin/sh\nP={shlex.quote(tested)}\n{does}\n")
+        os.chmod(path, 0o755)
 
 
 class Quick:

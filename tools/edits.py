@@ -6,6 +6,8 @@ from collections.abc import Collection, Iterable, Iterator, Mapping
 from pathlib import Path
 from typing import NamedTuple
 
+import prover
+
 # The head of a function, of a block of functions (an implementation or a trait), and of a type.
 HEAD = re.compile(r'( *)(?:[\w()"]+ )*fn (\w+)')
 BLOCK = re.compile(
@@ -119,8 +121,7 @@ class Sources:
     @classmethod
     def of(cls, crate: Path) -> "Sources":
         """Returns the sources in the folder of a crate."""
-        files = [it for part in ("src", "specs", "proofs") for it in (crate / part).rglob("*") if it.is_file()]
-        return cls({str(it.relative_to(crate)): it.read_text("utf-8") for it in sorted(files)})
+        return cls({str(it.relative_to(crate)): it.read_text("utf-8") for it in prover.sources_of(crate)})
 
     def at(self, path: str, line: int) -> Function | None:
         """Returns the function at a line of a source, counted from 0."""

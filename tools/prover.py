@@ -8,6 +8,7 @@ import os
 import re
 import signal
 import subprocess
+import sys
 import time
 from collections.abc import Mapping
 from pathlib import Path
@@ -37,6 +38,23 @@ class Row(NamedTuple):
     def size(self) -> int:
         """Returns how many bytes the code of the crate has."""
         return sum(it.stat().st_size for it in (ROOT / "crates" / self.name / "src").rglob("*.rt"))
+
+    def place(self, is_checked: bool) -> Path:
+        """Returns where its library is: where `rt` has proved it, or else tools/build."""
+        return ROOT / "crates" / (self.name if is_checked else "dnorm") / "out" / "rlib"
+
+
+def sources_of(crate: Path) -> list[Path]:
+    """Returns all that the proof of a crate in this folder depends on, besides other crates, in order."""
+    return sorted(it for part in ("src", "specs", "proofs") for it in (crate / part).rglob("*") if it.is_file())
+
+
+def end_by_signals() -> None:
+    """Lets signals end this process as an exit does, so that it ends the proofs as well, and removes what it made."""
+    for number in (signal.SIGINT, signal.SIGTERM, signal.SIGHUP):
+        # nohup and background jobs of scripts have it ignored.
+        if signal.getsignal(number) is not signal.SIG_IGN:
+            signal.signal(number, lambda it, _: sys.exit(128 + it))
 
 
 def rows() -> dict[str, Row]:

@@ -1,15 +1,11 @@
-// Canonical texts of all six kinds in plain Rust: the standard library's maps, lines, `str::parse`
-// and a `BufWriter`.
+// Canonical texts of all six kinds (form 1) in plain Rust, from standard input to standard output: the standard library's
+// maps, lines, `str::parse` and a `BufWriter`.
 //
-//   btree                           standard input to standard output, form 1
-//   btree canon [--form 1|2] FILE   `-` is standard input
-//
-// Refusals go to standard error as `NAME:LINE: NUMBER CODE` with status 2. The program is written
-// from docs/FORMAT.md alone and shares no code with dnorm, so equal bytes are evidence.
+// Refusals go to standard error as `-:LINE: NUMBER CODE` with status 2. The program is written from docs/FORMAT.md alone
+// and shares no code with dnorm, so equal bytes are evidence.
 
-use std::collections::{BTreeMap, BTreeSet};
-use std::fs::File;
-use std::io::{self, BufRead, BufReader, BufWriter, Write};
+use std::collections::BTreeMap;
+use std::io::{self, BufRead, BufWriter, Write};
 use std::num::IntErrorKind;
 use std::process::ExitCode;
 
@@ -37,6 +33,23 @@ const CODES: [&str; 21] = [
     "TooLong",
 ];
 
+/// A kind: its words after `p`, the letter and the fields of the lines that are counted, and the fields of its node lines.
+/// A field is a node (`n`), a number that is not below 0 (`+`), any number (`z`), or the letter of a terminal (`t`).
+struct Kind {
+    words: &'static [&'static str],
+    letter: &'static str,
+    fields: &'static str,
+    ends: &'static str,
+}
+const KINDS: [Kind; 6] = [
+    Kind { words: &["min"], letter: "a", fields: "nn++z", ends: "nz" },
+    Kind { words: &["max"], letter: "a", fields: "nn+", ends: "nt" },
+    Kind { words: &["sp"], letter: "a", fields: "nnz", ends: "" },
+    Kind { words: &["aux", "sp", "ss"], letter: "s", fields: "n", ends: "" },
+    Kind { words: &["aux", "sp", "p2p"], letter: "q", fields: "nn", ends: "" },
+    Kind { words: &["aux", "sp", "co"], letter: "v", fields: "nzz", ends: "" },
+];
+
 enum Fault {
     Text(Option<u64>, u8),
     Io(io::Error),
@@ -55,27 +68,17 @@ struct Bundle {
     free: BTreeMap<i64, i64>,
 }
 
-enum Data {
-    Sp(BTreeMap<(i64, i64), i64>),
-    Max {
-        ends: [Option<i64>; 2],
-        arcs: BTreeMap<(i64, i64), i64>,
-    },
-    Min {
-        seen: BTreeSet<i64>,
-        supply: BTreeMap<i64, i64>,
-        arcs: BTreeMap<(i64, i64), Bundle>,
-    },
-    Ss(Vec<i64>),
-    P2p(Vec<(i64, i64)>),
-    Co(BTreeMap<i64, (i64, i64)>),
-}
-
+/// What a text has: in `sp` and `max` a number of each pair; in `min` its bundles; flows or points by nodes; and a list.
 struct Instance {
+    kind: &'static Kind,
     nodes: i64,
     declared: i64,
     lines: i64,
-    data: Data,
+    ends: [Option<i64>; 2],
+    arcs: BTreeMap<(i64, i64), i64>,
+    bundles: BTreeMap<(i64, i64), Bundle>,
+    points: BTreeMap<i64, (i64, i64)>,
+    items: Vec<(i64, i64)>,
 }
 
 fn is_digits(word: &str) -> bool {
@@ -83,199 +86,89 @@ fn is_digits(word: &str) -> bool {
     !digits.is_empty() && digits.bytes().all(|b| b.is_ascii_digit())
 }
 
-/// The number fields; NotANumber is found before OutOfRange.
-fn numbers<const N: usize>(words: &[&str]) -> Result<[i64; N], u8> {
-    let mut out = [0; N];
-    let mut range = false;
-    for (slot, word) in out.iter_mut().zip(words) {
+/// The numbers of a line with these fields. Each fault is looked for in all fields before the next one.
+fn numbers(fields: &str, words: &[&str], nodes: i64) -> Result<[i64; 5], u8> {
+    if words.len() != fields.len() {
+        return Err(8);
+    }
+    let mut found = [0; 5];
+    // Whether a number is too large, a number is below 0, a letter is unknown, and a node is.
+    let mut faults = [false; 4];
+    for ((slot, field), word) in found.iter_mut().zip(fields.bytes()).zip(words) {
         match word.parse::<i64>() {
-            Ok(n) => *slot = n,
-            Err(e)
-                if matches!(
-                    e.kind(),
-                    IntErrorKind::PosOverflow | IntErrorKind::NegOverflow
-                ) && is_digits(word) =>
-            {
-                range = true
+            _ if field == b't' => faults[2] |= !["s", "t"].contains(word),
+            Ok(n) => {
+                *slot = n;
+                faults[1] |= field == b'+' && n < 0;
+                faults[3] |= field == b'n' && !(1..=nodes).contains(&n);
+            }
+            Err(e) if matches!(e.kind(), IntErrorKind::PosOverflow | IntErrorKind::NegOverflow) && is_digits(word) => {
+                faults[0] = true
             }
             Err(_) => return Err(9),
         }
     }
-    if range {
-        Err(10)
-    } else {
-        Ok(out)
+    match faults.iter().zip([10, 11, 12, 13]).find(|it| *it.0) {
+        Some((_, code)) => Err(code),
+        None => Ok(found),
     }
 }
 
 fn problem(words: &[&str]) -> Result<Instance, u8> {
-    let (data, fields) = match words[1..] {
-        ["sp", ..] => (Data::Sp(BTreeMap::new()), &words[2..]),
-        ["max", ..] => (
-            Data::Max {
-                ends: [None; 2],
-                arcs: BTreeMap::new(),
-            },
-            &words[2..],
-        ),
-        ["min", ..] => (
-            Data::Min {
-                seen: BTreeSet::new(),
-                supply: BTreeMap::new(),
-                arcs: BTreeMap::new(),
-            },
-            &words[2..],
-        ),
-        ["aux", "sp", "ss", ..] => (Data::Ss(Vec::new()), &words[4..]),
-        ["aux", "sp", "p2p", ..] => (Data::P2p(Vec::new()), &words[4..]),
-        ["aux", "sp", "co", ..] => (Data::Co(BTreeMap::new()), &words[4..]),
-        _ => return Err(4),
-    };
-    let graph = matches!(data, Data::Sp(_) | Data::Max { .. } | Data::Min { .. });
-    let (nodes, declared) = if graph {
-        if fields.len() != 2 {
-            return Err(8);
-        }
-        let [nodes, arcs] = numbers(fields)?;
+    let kind = KINDS.iter().find(|it| words[1..].starts_with(it.words)).ok_or(4)?;
+    let fields = &words[1 + kind.words.len()..];
+    let (nodes, declared) = if kind.letter == "a" {
+        let [nodes, arcs, ..] = numbers("++", fields, 0)?;
         (nodes, arcs)
     } else {
-        if fields.len() != 1 {
-            return Err(8);
-        }
-        let [k] = numbers(fields)?;
-        (0, k)
+        (i64::MAX, numbers("+", fields, 0)?[0])
     };
-    if nodes < 0 || declared < 0 {
-        return Err(11);
-    }
-    Ok(Instance {
-        nodes,
-        declared,
-        lines: 0,
-        data,
-    })
+    let (arcs, bundles, points, items) = Default::default();
+    Ok(Instance { kind, nodes, declared, lines: 0, ends: [None; 2], arcs, bundles, points, items })
 }
 
 impl Instance {
+    fn name(&self) -> &'static str {
+        self.kind.words[self.kind.words.len() - 1]
+    }
     fn add(&mut self, words: &[&str]) -> Result<(), u8> {
-        let counted = match (&self.data, words[0]) {
-            (Data::Max { .. } | Data::Min { .. }, "n") => false,
-            (Data::Sp(_) | Data::Max { .. } | Data::Min { .. }, "a") => true,
-            (Data::Ss(_), "s") | (Data::P2p(_), "q") | (Data::Co(_), "v") => true,
-            _ => return Err(5),
-        };
+        let counted = words[0] == self.kind.letter;
+        if !counted && (words[0] != "n" || self.kind.ends.is_empty()) {
+            return Err(5);
+        }
         if !counted && self.lines > 0 {
             return Err(6);
         }
         if counted && self.lines >= self.declared {
             return Err(7);
         }
-        let nodes = self.nodes;
-        let fields = &words[1..];
-        let count = |n: usize| if fields.len() == n { Ok(()) } else { Err(8) };
-        let known = |id: i64| {
-            if (1..=nodes).contains(&id) {
-                Ok(())
-            } else {
-                Err(13)
+        self.lines += counted as i64;
+        let fields = if counted { self.kind.fields } else { self.kind.ends };
+        let [u, v, a, b, c] = numbers(fields, &words[1..], self.nodes)?;
+        match (self.name(), counted) {
+            ("sp", _) => {
+                self.arcs.entry((u, v)).and_modify(|length| *length = a.min(*length)).or_insert(a);
             }
-        };
-        match &mut self.data {
-            Data::Sp(arcs) => {
-                count(3)?;
-                let [src, dst, length] = numbers(fields)?;
-                known(src)?;
-                known(dst)?;
-                arcs.entry((src, dst))
-                    .and_modify(|l| *l = length.min(*l))
-                    .or_insert(length);
+            ("max", true) => {
+                let total = self.arcs.entry((u, v)).or_insert(0);
+                *total = total.checked_add(a).ok_or(17)?;
             }
-            Data::Max { ends, .. } if !counted => {
-                count(2)?;
-                let [id] = numbers(&fields[..1])?;
-                let which = match fields[1] {
-                    "s" => 0,
-                    "t" => 1,
-                    _ => return Err(12),
-                };
-                known(id)?;
-                if ends[which].is_some() {
+            ("max", false) => {
+                let which = (words[2] == "t") as usize;
+                if self.ends[which].is_some() {
                     return Err(14);
                 }
-                if ends[1 - which] == Some(id) {
+                if self.ends[1 - which] == Some(u) {
                     return Err(15);
                 }
-                ends[which] = Some(id);
+                self.ends[which] = Some(u);
             }
-            Data::Max { arcs, .. } => {
-                count(3)?;
-                let [src, dst, cap] = numbers(fields)?;
-                if cap < 0 {
-                    return Err(11);
-                }
-                known(src)?;
-                known(dst)?;
-                let total = arcs.entry((src, dst)).or_insert(0);
-                *total = total.checked_add(cap).ok_or(17)?;
-            }
-            Data::Min { seen, supply, .. } if !counted => {
-                count(2)?;
-                let [id, flow] = numbers(fields)?;
-                known(id)?;
-                if !seen.insert(id) {
-                    return Err(14);
-                }
-                if flow != 0 {
-                    supply.insert(id, flow);
-                }
-            }
-            Data::Min { arcs, .. } => {
-                count(5)?;
-                let [src, dst, low, cap, cost] = numbers(fields)?;
-                if low < 0 || cap < 0 {
-                    return Err(11);
-                }
-                known(src)?;
-                known(dst)?;
-                if low > cap {
-                    return Err(16);
-                }
-                let bundle = arcs.entry((src, dst)).or_default();
-                bundle.caps = bundle.caps.checked_add(cap).ok_or(17)?;
-                bundle.forced += low;
-                bundle.cost += low as i128 * cost as i128;
-                if cap > low {
-                    *bundle.free.entry(cost).or_insert(0) += cap - low;
-                }
-            }
-            Data::Ss(items) => {
-                count(1)?;
-                let [id] = numbers(fields)?;
-                if id < 1 {
-                    return Err(13);
-                }
-                items.push(id);
-            }
-            Data::P2p(items) => {
-                count(2)?;
-                let [a, b] = numbers(fields)?;
-                if a < 1 || b < 1 {
-                    return Err(13);
-                }
-                items.push((a, b));
-            }
-            Data::Co(points) => {
-                count(3)?;
-                let [id, x, y] = numbers(fields)?;
-                if id < 1 {
-                    return Err(13);
-                }
-                if points.insert(id, (x, y)).is_some() {
-                    return Err(14);
-                }
-            }
+            ("min", true) if a > b => return Err(16),
+            ("min", true) => self.bundles.entry((u, v)).or_default().add(a, b, c)?,
+            ("ss" | "p2p", _) => self.items.push((u, v)),
+            _ if self.points.insert(u, (v, a)).is_some() => return Err(14),
+            _ => {}
         }
-        self.lines += counted as i64;
         Ok(())
     }
 }
@@ -288,10 +181,7 @@ fn read(input: impl BufRead) -> Result<Instance, Fault> {
         no += 1;
         let fault = |code| Fault::Text(Some(no), code);
         let text = String::from_utf8_lossy(&line);
-        let mut words = text
-            .split([' ', '\t', '\r'])
-            .filter(|w| !w.is_empty())
-            .peekable();
+        let mut words = text.split([' ', '\t', '\r']).filter(|w| !w.is_empty()).peekable();
         match words.peek() {
             None => continue,
             Some(first) if first.starts_with('c') => continue,
@@ -307,11 +197,7 @@ fn read(input: impl BufRead) -> Result<Instance, Fault> {
         }
     }
     let instance = instance.ok_or(Fault::Text(None, 18))?;
-    if let Data::Max {
-        ends: [None, _] | [_, None],
-        ..
-    } = instance.data
-    {
+    if instance.name() == "max" && instance.ends.contains(&None) {
         return Err(Fault::Text(None, 19));
     }
     if instance.lines < instance.declared {
@@ -321,130 +207,85 @@ fn read(input: impl BufRead) -> Result<Instance, Fault> {
 }
 
 impl Bundle {
-    /// The canonical arcs (LOW, CAP, COST) of form 1 or 2.
-    fn arcs(&self, form: u8) -> Vec<(i64, i64, i64)> {
-        let mut fixed = Vec::new();
+    fn add(&mut self, low: i64, cap: i64, cost: i64) -> Result<(), u8> {
+        self.caps = self.caps.checked_add(cap).ok_or(17)?;
+        self.forced += low;
+        self.cost += low as i128 * cost as i128;
+        if cap > low {
+            *self.free.entry(cost).or_insert(0) += cap - low;
+        }
+        Ok(())
+    }
+    /// The canonical arcs (LOW, CAP, COST).
+    fn arcs(&self) -> Vec<(i64, i64, i64)> {
+        let mut arcs = Vec::new();
         if self.forced > 0 {
             let l = self.forced as i128;
-            let c = self.cost.div_euclid(l);
-            let r = self.cost.rem_euclid(l);
-            fixed.push(((l - r) as i64, c as i64));
+            let (c, r) = (self.cost.div_euclid(l) as i64, self.cost.rem_euclid(l) as i64);
+            arcs.push((self.forced - r, self.forced - r, c));
             if r > 0 {
-                fixed.push((r as i64, (c + 1) as i64));
+                arcs.push((r, r, c + 1));
             }
         }
-        if form == 1 {
-            let fixed = fixed.iter().map(|&(units, cost)| (units, units, cost));
-            return fixed
-                .chain(self.free.iter().map(|(&cost, &cap)| (0, cap, cost)))
-                .collect();
-        }
-        let mut merged: BTreeMap<i64, (i64, i64)> = self
-            .free
-            .iter()
-            .map(|(&cost, &cap)| (cost, (0, cap)))
-            .collect();
-        for (units, cost) in fixed {
-            let slot = merged.entry(cost).or_default();
-            slot.0 += units;
-            slot.1 += units;
-        }
-        merged
-            .into_iter()
-            .map(|(cost, (low, cap))| (low, cap, cost))
-            .collect()
+        arcs.extend(self.free.iter().map(|(&cost, &cap)| (0, cap, cost)));
+        arcs
     }
 }
 
-fn write(instance: &Instance, form: u8, out: &mut impl Write) -> io::Result<()> {
-    let n = instance.nodes;
-    match &instance.data {
-        Data::Sp(arcs) => {
-            writeln!(out, "p sp {} {}", n, arcs.len())?;
-            for ((src, dst), length) in arcs {
-                writeln!(out, "a {src} {dst} {length}")?;
-            }
+fn write(mut it: Instance, out: &mut impl Write) -> io::Result<()> {
+    let name = it.name();
+    if name == "max" {
+        it.arcs.retain(|_, cap| *cap > 0);
+    }
+    let bundled: usize = it.bundles.values().map(|bundle| bundle.arcs().len()).sum();
+    let points = if name == "co" { it.points.len() } else { 0 };
+    write!(out, "p {}", it.kind.words.join(" "))?;
+    if it.kind.letter == "a" {
+        write!(out, " {}", it.nodes)?;
+    }
+    writeln!(out, " {}", it.arcs.len() + bundled + points + it.items.len())?;
+    if let [Some(source), Some(sink)] = it.ends {
+        writeln!(out, "n {source} s\nn {sink} t")?;
+    }
+    for (id, (x, y)) in &it.points {
+        match name {
+            "co" => writeln!(out, "v {id} {x} {y}")?,
+            _ if *x == 0 => {}
+            _ => writeln!(out, "n {id} {x}")?,
         }
-        Data::Max { ends, arcs } => {
-            writeln!(
-                out,
-                "p max {} {}",
-                n,
-                arcs.values().filter(|&&cap| cap > 0).count()
-            )?;
-            writeln!(out, "n {} s\nn {} t", ends[0].unwrap(), ends[1].unwrap())?;
-            for ((src, dst), cap) in arcs.iter().filter(|(_, &cap)| cap > 0) {
-                writeln!(out, "a {src} {dst} {cap}")?;
-            }
+    }
+    for ((tail, head), number) in &it.arcs {
+        writeln!(out, "a {tail} {head} {number}")?;
+    }
+    for ((tail, head), bundle) in &it.bundles {
+        for (low, cap, cost) in bundle.arcs() {
+            writeln!(out, "a {tail} {head} {low} {cap} {cost}")?;
         }
-        Data::Min { supply, arcs, .. } => {
-            let lines: usize = arcs.values().map(|b| b.arcs(form).len()).sum();
-            writeln!(out, "p min {n} {lines}")?;
-            for (id, flow) in supply {
-                writeln!(out, "n {id} {flow}")?;
-            }
-            for ((src, dst), bundle) in arcs {
-                for (low, cap, cost) in bundle.arcs(form) {
-                    writeln!(out, "a {src} {dst} {low} {cap} {cost}")?;
-                }
-            }
-        }
-        Data::Ss(items) => {
-            writeln!(out, "p aux sp ss {}", items.len())?;
-            for id in items {
-                writeln!(out, "s {id}")?;
-            }
-        }
-        Data::P2p(items) => {
-            writeln!(out, "p aux sp p2p {}", items.len())?;
-            for (a, b) in items {
-                writeln!(out, "q {a} {b}")?;
-            }
-        }
-        Data::Co(points) => {
-            writeln!(out, "p aux sp co {}", points.len())?;
-            for (id, (x, y)) in points {
-                writeln!(out, "v {id} {x} {y}")?;
-            }
+    }
+    for (id, other) in &it.items {
+        match name {
+            "ss" => writeln!(out, "s {id}")?,
+            _ => writeln!(out, "q {id} {other}")?,
         }
     }
     out.flush()
 }
 
-fn canon(name: &str, form: u8) -> Result<(), Fault> {
-    let instance = match name {
-        "-" => read(io::stdin().lock())?,
-        _ => read(BufReader::new(File::open(name)?))?,
-    };
-    Ok(write(
-        &instance,
-        form,
-        &mut BufWriter::new(io::stdout().lock()),
-    )?)
+fn canon() -> Result<(), Fault> {
+    let instance = read(io::stdin().lock())?;
+    Ok(write(instance, &mut BufWriter::new(io::stdout().lock()))?)
 }
 
 fn main() -> ExitCode {
-    let words: Vec<String> = std::env::args().skip(1).collect();
-    let words: Vec<&str> = words.iter().map(String::as_str).collect();
-    let (name, form) = match words[..] {
-        [] => ("-", 1),
-        ["canon", name] => (name, 1),
-        ["canon", "--form", "1", name] => (name, 1),
-        ["canon", "--form", "2", name] => (name, 2),
-        _ => {
-            eprintln!("btree: bad command line");
-            return ExitCode::from(3);
-        }
-    };
-    match canon(name, form) {
+    match canon() {
         Ok(()) => ExitCode::SUCCESS,
         Err(Fault::Text(at, code)) => {
             let place = at.map_or("end".to_string(), |no| no.to_string());
-            eprintln!("{name}:{place}: {code} {}", CODES[code as usize - 1]);
+            eprintln!("-:{place}: {code} {}", CODES[code as usize - 1]);
             ExitCode::from(2)
         }
         Err(Fault::Io(e)) => {
-            eprintln!("{name}: {e}");
+            eprintln!("-: {e}");
             ExitCode::from(4)
         }
     }

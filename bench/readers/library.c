@@ -17,9 +17,9 @@ static uint64_t sum_columns(const dnorm *graph, size_t count) {
         columns[i] = malloc(((i < 3 ? count : further) + 1) * sizeof(int64_t));
         if (!columns[i]) exit(4);
     }
-    const dnorm_count copied = dnorm_columns(graph, 1, &place, columns[0], count, columns[1], count, columns[2], count,
-                                             columns[3], further, columns[4], further);
-    if (copied.count != count) exit(1);
+    const dnorm_arc_columns all = {columns[0], columns[1], columns[2], further ? columns[3] : NULL,
+                                   further ? columns[4] : NULL};
+    if (dnorm_columns(graph, 1, &place, all, count).count != count) exit(1);
     for (size_t at = 0; at < count; at++) sum += (uint64_t)(columns[1][at] + columns[2][at]);
     for (size_t at = 0; at < further; at++) sum += (uint64_t)(columns[3][at] + columns[4][at]);
     for (int i = 0; i < 5; i++) free(columns[i]);

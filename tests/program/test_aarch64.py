@@ -217,7 +217,7 @@ def test_library_in_c(at_length: Emulated, folder: str) -> None:
 
 def test_library_in_python(at_length: Emulated, folder: str) -> None:
     """The library for C through ctypes, in a Python for arm64."""
-    root, library = f"{folder}/root", at_length.beside("lib/libdnorm.so.2")
+    root, library = f"{folder}/root", at_length.beside("lib/libdnorm.so.3")
     if lack := fetched(root, f"{folder}/apt", ["python3", "python3-pytest", "python3-hypothesis"]):
         pass_over(lack)
     python = [at_length.qemu, "-L", root, f"{root}/usr/bin/python3"]
@@ -232,7 +232,7 @@ def test_library_in_python(at_length: Emulated, folder: str) -> None:
     shutil.copy(library, place)
     own = {it: value for it, value in os.environ.items() if it not in ("DNORM", "DNORM_LIBRARY")}
     own |= {"PYTHONPATH": f"{ROOT}/python/src", "PYTHONDONTWRITEBYTECODE": "1"}
-    assert run([*python, "-c", BY_PACKAGE, program], ROADS, env=own) == said(f"{place}/libdnorm.so.2 5\n")
+    assert run([*python, "-c", BY_PACKAGE, program], ROADS, env=own) == said(f"{place}/libdnorm.so.3 5\n")
 
 
 def fetched(root: str, state: str, packages: list[str]) -> str:

@@ -1,18 +1,18 @@
-"""The completions: bash, zsh and fish complete commands, options, forms and files, each with the file where `./install`
-installs it."""
+"""The completions that tools/generate makes: bash, zsh and fish complete commands, options, forms and files, each with
+the file where `./install` installs it."""
 
 import argparse
 import os
 import re
-import shlex
 from collections.abc import Callable, Iterator
 
 import pytest
 from needs import leave_out, need, need_proc, terminal
 from shared import Answer, run, said, write
-from test_share import COMPLETIONS, FILES, PARTS, SHARE
+from test_share import FILES, PARTS
 
 from dnorm.commands.line import TASKS, parser
+from dnorm.parts.line import parser as parts_parser
 
 # Command lines, and the completions of the last word of each, in a folder with the files check, g.gr and s.ss.
 COMPLETED = [
@@ -35,51 +35,65 @@ COMPLETED = [
     ("dnorm help ", "show check canon compare help"),
     ("dnorm help s", "show"),
     ("dnorm help show ", ""),
-    ("dnorm-files c", "check compare conformance"),
+    ("dnorm-files c", "check compare"),
     ("dnorm-files --v", "--version"),
     ("dnorm-files check --ex", "--exclude --exit-first"),
     ("dnorm-files check g", "g.gr"),
-    ("dnorm-files check --output-format ", "text json github sarif"),
-    ("dnorm-files check --output-format=s", "sarif"),
+    ("dnorm-files check --output-format ", "text json github"),
+    ("dnorm-files check --output-format=g", "github"),
     ("dnorm-files manifest --verify s", "s.ss"),
     ("dnorm-files manifest --form ", "1 2"),
     ("dnorm-files list --c", "--csv"),
     ("dnorm-files compare g.gr s", "s.ss"),
     ("dnorm-files compare --l", "--limit"),
-    ("dnorm-files parts --l", "--lines"),
     ("canon-in-parts --f", "--form"),
-    ("canon-in-parts --ssh", "--sshlogin --sshloginfile"),
+    ("canon-in-parts --l", "--lines"),
     ("canon-in-parts --form ", "1 2"),
     ("canon-in-parts --form=2", "2"),
     ("canon-in-parts --form 2 ", "check g.gr s.ss"),
-    ("canon-in-parts --sshloginfile s", "s.ss"),
-    ("canon-in-parts --tmpdir ", ""),
-    *((f"canon-in-parts --{it} ", "") for it in ("lines", "parts", "jobs", "sshlogin")),
-    ("canon-in-parts --program ", "check g.gr s.ss"),
+    ("canon-in-parts --program s", "s.ss"),
     ("canon-in-parts --lines 5 g", "g.gr"),
 ]
 FILES_HERE = "check g.gr s.ss"
 
 
 def values() -> Iterator[tuple[str, str]]:
-    """Yields a line for each option of dnorm-files, which ends in the option and a blank, with its completions: a file
-    follows an option without a value or with that of a file, and nothing that is known another value."""
+    """Yields lines for each option of the package, which end in the option and a blank or =, with its completions: a
+    file follows an option without a value or with that of a file, and nothing that is known another value; and a line
+    with the beginning of all options of a command."""
     (tasks,) = (it for it in parser()._actions if isinstance(it, argparse._SubParsersAction))
-    for task, one in tasks.choices.items():
-        for it in one._actions if task in TASKS else ():
-            name = it.option_strings[-1] if it.option_strings else ""
-            if name and name != "--help":
-                kinds = {"FILE": FILES_HERE, "PROGRAM": FILES_HERE, None: FILES_HERE if it.nargs == 0 else ""}
-                # A value that may be missing stands behind a sign.
-                kinds["COMMIT"] = FILES_HERE
-                known = " ".join(map(str, it.choices)) if it.choices else kinds.get(it.metavar, "")
-                yield f"dnorm-files {task} {name} ", known
+    found = {f"dnorm-files {task}": tasks.choices[task] for task in TASKS}
+    for words, one in {**found, "canon-in-parts": parts_parser()}.items():
+        options = [it for it in one._actions if it.option_strings]
+        yield f"{words} --", " ".join(it.option_strings[-1] for it in options)
+        for it in options:
+            # A value that may be missing stands behind a sign.
+            is_file = it.nargs in (0, "?") or it.metavar in ("FILE", "PROGRAM")
+            known = " ".join(map(str, it.choices)) if it.choices else FILES_HERE if is_file else ""
+            for name in it.option_strings:
+                yield f"{words} {name} ", known
+                if name[1] == "-" and it.nargs not in (0, "?"):
+                    yield f"{words} {name}=", known
 
 
-# Completes the last of the words after the name of a file, as bash does.
-IN_BASH = (
-    'source "$1"; shift; COMP_WORDS=("$@") COMP_CWORD=$(($# - 1)); "_${1//-/_}"; ' 'printf "%s\\n" "${COMPREPLY[@]}"'
-)
+# Completes the last word of each line, whose words a sign ends, as bash does.
+IN_BASH = r"""
+for line; do
+    mapfile -d $'\x1f' -t COMP_WORDS <<< "$line"
+    unset "COMP_WORDS[-1]"
+    source "$SHARE/bash-completion/completions/${COMP_WORDS[0]}"
+    COMP_CWORD=$((${#COMP_WORDS[@]} - 1))
+    "_${COMP_WORDS[0]//-/_}"
+    printf '%s\n' "${COMPREPLY[@]}" END
+done
+"""
+# Completes each line. A match has its option before = and a description after a tab.
+IN_FISH = r"""
+for line in $argv
+    complete -C $line | string replace -r '\t.*' '' | string replace -r '.*=' ''
+    echo END
+end
+"""
 # Has the package's loader find the file of a command, and prints what it has set.
 LOADED_BY_BASH = 'source /usr/share/bash-completion/bash_completion; _completion_loader "$1"; complete -p "$1"'
 # The set-up of a zsh in a terminal of its own, since zsh completes only in a terminal. A key completes the line, and
@@ -130,14 +144,13 @@ zpty -d shell
 
 
 COMPLETED += values()
-LINES = pytest.mark.parametrize("line, wanted", COMPLETED, ids=[line for line, _ in COMPLETED])
 # What runs a shell with these words.
 Shell = Callable[..., Answer]
 
 
 @pytest.fixture
-def environment(tested: str, folder: str) -> dict[str, str]:
-    """Variables of shells that find the program on their path, and the files of the program below share/."""
+def environment(tested: str, folder: str, made: str) -> dict[str, str]:
+    """Variables of shells that find the program on their path, and its completions below share/."""
     for name in ["files", "bin", "home"]:
         os.mkdir(name)
     for name in ["check", "g.gr", "s.ss"]:
@@ -145,8 +158,8 @@ def environment(tested: str, folder: str) -> dict[str, str]:
     for path, name in [(tested, "dnorm"), (PARTS, "canon-in-parts"), (FILES, "dnorm-files")]:
         os.symlink(path, f"bin/{name}")
     write("key", KEY_OF_ZSH)
-    own = {"PATH": f"{folder}/bin:{os.environ['PATH']}", "HOME": f"{folder}/home", "XDG_DATA_DIRS": SHARE}
-    own |= {"SHARE": SHARE, "KEY": f"{folder}/key", "FOUND": f"{folder}/found", "TERM": "vt100"}
+    own = {"PATH": f"{folder}/bin:{os.environ['PATH']}", "HOME": f"{folder}/home", "XDG_DATA_DIRS": f"{made}/share"}
+    own |= {"SHARE": f"{made}/share", "KEY": f"{folder}/key", "FOUND": f"{folder}/found", "TERM": "vt100"}
     # The folders in which fish and the package of bash look first.
     others = ("XDG_DATA_HOME", "XDG_CONFIG_HOME", "BASH_COMPLETION_USER_DIR")
     return {name: value for name, value in os.environ.items() if name not in others} | own
@@ -157,18 +170,20 @@ def shell(environment: dict[str, str], folder: str) -> Shell:
     return lambda *words: run(words, cwd=f"{folder}/files", env=environment)
 
 
-def matches(found: list[str]) -> list[str]:
-    return sorted(filter(None, found))
+def compare(found: Answer) -> None:
+    """Compares the matches of all lines, after each of which stands END."""
+    parts = [it.splitlines() for it in found.out.decode().split("END\n")]
+    assert (found.err, len(parts)) == (b"", len(COMPLETED) + 1)
+    for (line, wanted), lines in zip(COMPLETED, parts):
+        assert sorted(filter(None, (it.strip() for it in lines))) == sorted(wanted.split()), line
 
 
-@LINES
-def test_bash(shell: Shell, line: str, wanted: str) -> None:
+def test_bash(shell: Shell) -> None:
     """bash passes = as a word of its own."""
     need("bash")
     need_proc()
-    words = [*re.findall(r"=|[^ =]+", line), *([""] if line.endswith(" ") else [])]
-    found = shell("bash", "-c", IN_BASH, "bash", COMPLETIONS["bash"].replace("COMMAND", words[0]), *words)
-    assert (matches(found.out.decode().splitlines()), found.err) == (sorted(wanted.split()), b"")
+    lines = [[*re.findall(r"=|[^ =]+", line), *([""] if line.endswith(" ") else [])] for line, _ in COMPLETED]
+    compare(shell("bash", "-c", IN_BASH, "bash", *("".join(f"{it}\x1f" for it in words) for words in lines)))
 
 
 @pytest.mark.parametrize("command", ["dnorm", "dnorm-files", "canon-in-parts"])
@@ -184,17 +199,9 @@ def test_zsh(shell: Shell) -> None:
     need("zsh")
     for it in terminal():
         os.close(it)
-    found = shell("zsh", "-f", "-c", IN_ZSH, "zsh", *[line for line, _ in COMPLETED])
-    parts = [it.splitlines() for it in found.out.decode().split("END\n")]
-    assert (found.err, len(parts)) == (b"", len(COMPLETED) + 1)
-    for (line, wanted), lines in zip(COMPLETED, parts):
-        assert matches([it.strip() for it in lines]) == sorted(wanted.split()), line
+    compare(shell("zsh", "-f", "-c", IN_ZSH, "zsh", *[line for line, _ in COMPLETED]))
 
 
-@LINES
-def test_fish(shell: Shell, line: str, wanted: str) -> None:
-    """Each match has its option before = and a description after a tab."""
+def test_fish(shell: Shell) -> None:
     need("fish")
-    found = shell("fish", "-c", f"complete -C {shlex.quote(line)}")
-    shown = [it.split("\t")[0].rpartition("=")[2] for it in found.out.decode().splitlines()]
-    assert (matches(shown), found.err) == (sorted(wanted.split()), b"")
+    compare(shell("fish", "-c", IN_FISH, *[line for line, _ in COMPLETED]))

@@ -28,7 +28,7 @@ FENCED = re.compile(r"^```(\w*)\n((?:(?!```).*\n)*)```$", re.M)
 FILE = re.compile(r"(?:#!.*\n)?(?:#|//) ([\w-]+\.\w+)\n")
 # The tools that a plain system may lack, by the words that call them.
 NEEDS = {"git": "git", "pv": "pv", "c++": "c++"}
-NEEDS |= {f"~/.local/lib/libdnorm.{it}": "libdnorm" for it in ["a", "so.2"]}
+NEEDS |= {f"~/.local/lib/libdnorm.{it}": "libdnorm" for it in ["a", "so.3"]}
 NEEDS |= {"static=dnorm": "libdnorm", "~/.local/share/doc/dnorm/c/examples/least_cost.cc": "LEMON"}
 NEEDS |= {"cc": "cc", "rustc": "rustc"}
 # The modules of Python that a plain system may lack, by their words.
@@ -106,7 +106,7 @@ def leave_out_lacking(lacking: list[str]) -> None:
 class Examples:
     """The examples of a page, by sections, and the folder in which they run."""
 
-    def __init__(self, name: str, tested: str, folder: str) -> None:
+    def __init__(self, name: str, tested: str, made: str, folder: str) -> None:
         self.name, self.folder = name, folder
         self.sections = sections_of_page(name)
         own = {f"GIT_{one}_{it}": "a@example.org" for one in ["AUTHOR", "COMMITTER"] for it in ["NAME", "EMAIL"]}
@@ -120,12 +120,12 @@ class Examples:
         self.environment |= {"PYTHONPATH": f"{ROOT}/python/src", "PYTHONDONTWRITEBYTECODE": "1"}
         os.makedirs(path[0])
         os.symlink(python_with(*MODULES) or sys.executable, f"{path[0]}/python3")
-        self.install(tested)
+        self.install(tested, made)
 
-    def install(self, tested: str) -> None:
+    def install(self, tested: str, made: str) -> None:
         """Installs below ~/.local what `./install` installs, and makes the folder that fresh folders are copies of."""
         for mode, place, to in listed():
-            path, source = f"{self.folder}/home/.local/{to}", source_of(place, tested)
+            path, source = f"{self.folder}/home/.local/{to}", source_of(place, tested, made)
             if os.path.exists(source) or is_there("libdnorm"):
                 os.makedirs(os.path.dirname(path), exist_ok=True)
                 shutil.copy(source, path)
@@ -174,10 +174,12 @@ class Examples:
 
 
 @pytest.fixture(scope="module")
-def examples(request: pytest.FixtureRequest, tested: str, tmp_path_factory: pytest.TempPathFactory) -> Examples:
+def examples(
+    request: pytest.FixtureRequest, tested: str, made: str, tmp_path_factory: pytest.TempPathFactory
+) -> Examples:
     """The examples of a page, which is the parameter."""
     need_proc()
-    return Examples(request.param, tested, str(tmp_path_factory.mktemp("examples")))
+    return Examples(request.param, tested, made, str(tmp_path_factory.mktemp("examples")))
 
 
 def test_pages() -> None:
@@ -240,7 +242,9 @@ def test_installed_readme(tested: str, folder: str) -> None:
     assert run([sys.executable, f"{ROOT}/tools/pages.py", pages]) == said(), "links"
     own = {it: value for it, value in os.environ.items() if it not in ("DNORM", "PYTHONPATH")}
     own["PATH"] = f"{prefix}/bin:{own['PATH']}"
-    assert " 451 lines of plain Rust write " in text_of(f"{pages}/{README}"), "a link to what is not installed"
+    assert " 292 lines of plain Rust (`bench/baselines/btree.rs`) write " in text_of(
+        f"{pages}/{README}"
+    ), "a link to what is not installed"
     blocks = [*blocks_of(text_of(f"{pages}/{README}"))]
     assert len(blocks) == len([*blocks_of(text_of(f"{ROOT}/{README}"))]) > 6
     for it in blocks:

@@ -22,6 +22,7 @@ pytestmark = pytest.mark.usefixtures("folder")
 # Refused files, and the lines that dnorm-explain prints below their refusals.
 COUNTS = "only a, s, q and v lines count"
 PAGE = "The file is a page of the web, as a server sends for an error or a login: get the file again"
+SUM = f"The capacities from 1 to 2 sum to {2**63 - 1} before this line, and with it to {2**63}"
 CONFLICT = "The line is of a conflict that git could not merge: keep one side, and remove such lines"
 EXPLAINED: list[tuple[str, bytes, list[str]]] = [
     ("a.gr", b"p sp 2 1\na 1 2 7\n \ta 2 1 4\r\n", ["line 3:  ^Ia 2 1 4^M", f"declared 1, found 2: {COUNTS}"]),
@@ -29,44 +30,19 @@ EXPLAINED: list[tuple[str, bytes, list[str]]] = [
     ("d.ss", b"c p\n\tp aux sp ss 2\r\ns 1\n", [f"declared 2, found 1: {COUNTS}"]),
     ("e.gr", b"p sp 2 1\na 0 1 7\n", ["line 2: a 0 1 7", "NODES 2: nodes count from 1"]),
     ("f.ss", b"p aux sp ss 1\ns 0\n", ["line 2: s 0"]),
-    ("g.gr", b"p sp 2 1\n" + 900 * b"x\xff", [f"line 2: {100 * 'xM-^?'}"]),
-    ("h.gr", b"", ["The file is empty"]),
+    ("g.gr", b"p sp 2 1\n" + 900 * b"x\xff", [f"line 2: {100 * 'xM-^?'}"]), ("h.gr", b"", ["The file is empty"]),
     ("i.min", b"p min 2 0\nn 2 1\nn 2 2\n", ["line 3: n 2 2", "Node 2 came first in line 2"]),
-    (
-        "j.max",
-        b"p max 2 2\nn 1 s\nn 2 t\na 1 2 9223372036854775807\na 1 2 1\n",
-        [
-            "line 5: a 1 2 1",
-            "The capacities from 1 to 2 sum to 9223372036854775807 before this line, and with it to "
-            "9223372036854775808",
-        ],
-    ),
-    (
-        "k.gr",
-        b"version https://git-lfs.github.com/spec/v1\noid sha256:0\n",
-        [
-            "line 1: version https://git-lfs.github.com/spec/v1",
-            "The file is a pointer of Git LFS, and the text is missing: git lfs pull",
-        ],
-    ),
-    (
-        "l.gr",
-        b"/annex/objects/SHA256E-s12--0.gr\n",
-        [
-            "line 1: /annex/objects/SHA256E-s12--0.gr",
-            "The file is a pointer of git-annex, and the text is missing: git annex get",
-        ],
-    ),
-    *[
-        (f"m{at}.gr", text, [f"line 1: {text.splitlines()[0].decode()}", PAGE])
-        for at, text in enumerate([b"<!DOCTYPE html>\n", b"<HTML><body>\n", b'<?xml version="1.0"?>\n<html>'])
-    ],
-    *[
-        (f"n{at}.gr", b"p sp 2 1\n" + text + b"\na 1 2 3\n", [f"line 2: {text.decode()}", CONFLICT])
-        for at, text in enumerate([b"<<<<<<< HEAD", b"||||||| 1234567", b"=======", b">>>>>>> branch"])
-    ],
+    ("j.max", b"p max 2 2\nn 1 s\nn 2 t\na 1 2 9223372036854775807\na 1 2 1\n", ["line 5: a 1 2 1", SUM]),
+    ("k.gr", b"version https://git-lfs.github.com/spec/v1\noid sha256:0\n", ["line 1: version https://git-lfs.github"
+     ".com/spec/v1", "The file is a pointer of Git LFS, and the text is missing: git lfs pull"]),
+    ("l.gr", b"/annex/objects/SHA256E-s12--0.gr\n", ["line 1: /annex/objects/SHA256E-s12--0.gr",
+     "The file is a pointer of git-annex, and the text is missing: git annex get"]),
+    *[(f"m{at}.gr", text, [f"line 1: {text.splitlines()[0].decode()}", PAGE]) for at, text in
+        enumerate([b"<!DOCTYPE html>\n", b"<HTML><body>\n", b'<?xml version="1.0"?>\n<html>'])],
+    *[(f"n{at}.gr", b"p sp 2 1\n" + text + b"\na 1 2 3\n", [f"line 2: {text.decode()}", CONFLICT]) for at, text in
+        enumerate([b"<<<<<<< HEAD", b"||||||| 1234567", b"=======", b">>>>>>> branch"])],
     ("o.gr", b"p sp 2 1\n==\n", ["line 2: =="]),
-]
+]  # fmt: skip
 # Command lines that dnorm refuses, in a folder with the files t.gr and u.gr, and what dnorm-explain says of them.
 WRONG_WORDS = [
     ("t.gr", "a command comes before the file: dnorm check t.gr"),
@@ -130,21 +106,12 @@ MARKED = [
 ]
 # What dnorm prints, and its status.
 STATUSES = [
-    ("", 0),
-    ("accepted sp\nforms none\n", 0),
-    ("differ nodes 2 3\n", 1),
-    ("-:1: 1 BadLine\n", 2),
-    ("there is no such file:end: 20 TooFewLines\n", 2),
-    ("t: 34 CountTooLarge\n", 2),
-    ("s.ss: 35 NotInGraph 7\n", 2),
-    ("dnorm: bad command line\n", 3),
-    ("dnorm: standard input named twice\n", 3),
-    ("dnorm: 30 Memory\n", 4),
-    ("-: 31 Read\n", 4),
-    ("t: 32 Endless\n", 4),
-    ("out: 33 Write\n", 4),
+    ("", 0), ("accepted sp\nforms none\n", 0), ("differ nodes 2 3\n", 1), ("-:1: 1 BadLine\n", 2),
+    ("there is no such file:end: 20 TooFewLines\n", 2), ("t: 34 CountTooLarge\n", 2), ("s.ss: 35 NotInGraph 7\n", 2),
+    ("dnorm: bad command line\n", 3), ("dnorm: standard input named twice\n", 3), ("dnorm: 30 Memory\n", 4),
+    ("-: 31 Read\n", 4), ("t: 32 Endless\n", 4), ("out: 33 Write\n", 4),
     ("t:1: 1 BadLine\n-: 31 Read\nt:1: 1 BadLine\n", 4),
-]
+]  # fmt: skip
 REASONS = {"none": "No such file or directory", "below": "Is a directory", "secret": "Permission denied"}
 
 

@@ -9,7 +9,6 @@ import pytest
 from known import ROADS, ROADS_CANON
 from needs import need
 from shared import ROOT, Answer, run, write
-from test_share import SHARE
 
 
 # Counts at the end.
@@ -33,9 +32,9 @@ class Repository:
         self.environment = {**os.environ, **who, **alone, "PATH": f"{folder}/bin:{os.environ['PATH']}"}
         self.environment["DNORM"] = tested
         self.git("init", "-q")
-        self.git("config", "diff.dnorm.textconv", f"{SHARE}/git/textconv")
+        self.git("config", "diff.dnorm.textconv", f"{ROOT}/share/git/textconv")
         self.put(".gitattributes", b"*.gr diff=dnorm\n")
-        shutil.copy(f"{SHARE}/git/pre-commit", f"{self.top}/.git/hooks/pre-commit")
+        shutil.copy(f"{ROOT}/share/git/pre-commit", f"{self.top}/.git/hooks/pre-commit")
 
     def run(self, *words: str) -> Answer:
         return run(words, cwd=self.top, env=self.environment)
@@ -109,22 +108,15 @@ class Repository:
         self.commits("a refused text elsewhere", b"stored.gr:1: 1 BadLine\n    line 1: x\n" + ONE)
         self.put("stored.gr", ROADS)
         self.commits("a text elsewhere")
-        self.git("config", "filter.elsewhere.smudge", "false")
-        self.git("config", "filter.elsewhere.required", "true")
-        self.put("stored.gr", ROADS_CANON)
-        found = self.git("commit", "-q", "-m", "a text that is lost")
-        assert found.status == 1, "a commit of a text that is lost"
-        self.git("config", "filter.elsewhere.smudge", "cat .git/stored")
-        self.git("reset", "-q", "--hard")
 
     def textconv(self) -> None:
         """Tests the script of `git diff`, by itself and called by git."""
         rows = [("-a b.gr", ROADS, ROADS_CANON), ("x.gr", b"a\0 1\n", b"a\0 1\n"), ("e", b"", b"")]
-        rows += [("a.GR.gz", gzip.compress(ROADS), ROADS_CANON), ("b.gr.gz", ROADS, ROADS_CANON)]
+        rows += [("a.GR.GZ", gzip.compress(ROADS), ROADS_CANON), ("b.gr.gz", ROADS, ROADS_CANON)]
         rows += [("cut.gr.gz", cut, cut) for cut in [gzip.compress(ROADS)[:-9]]]
         for name, text, wanted in rows:
             write(f"{self.top}/{name}", text)
-            assert self.run(f"{SHARE}/git/textconv", name) == Answer(wanted, b"", 0), f"textconv {name}"
+            assert self.run(f"{ROOT}/share/git/textconv", name) == Answer(wanted, b"", 0), f"textconv {name}"
         write(f"{self.top}/roads.gr", ROADS_CANON)
         self.differs("the same problem", [])
         write(f"{self.top}/roads.gr", ROADS.replace(b"a 2 1 4", b"a 2 1 5"))
@@ -159,7 +151,7 @@ def test_push(repository: Repository) -> None:
     repository.put("old.gr", b"x\n")
     repository.git("commit", "-q", "--no-verify", "-m", "a refused text")
     repository.git("push", "-q", "../bare.git", "legacy")
-    shutil.copy(f"{SHARE}/git/pre-receive", f"{repository.top}/../bare.git/hooks/pre-receive")
+    shutil.copy(f"{ROOT}/share/git/pre-receive", f"{repository.top}/../bare.git/hooks/pre-receive")
     repository.put("more.gr", ROADS)
     repository.commits("another text")
     found = repository.git("push", "-q", "../bare.git", "legacy")

@@ -2,7 +2,7 @@
 each place of a small text of each kind, and every prefix of some texts, are compared with the second reading in
 reading.py; in a quick run some byte values stand for all. Numbers and bytes at the limits are read at once and one byte
 a pull, and some texts in pieces of each size. Declared counts that are not met take no memory. Texts made to take long
-do not; bench/hostile.sh measures how long they take."""
+do not; bench/measure hostile measures how long they take."""
 
 import fcntl
 import functools

@@ -156,10 +156,10 @@ def test_random_text(
 
 
 def check_libraries(library: Preloaded, text: bytes, canon: bytes) -> None:
-    """Refuses each allocation of a test of the libraries in turn. The test reads from standard input a text, a byte 0,
-    and its canonical text in form 2."""
+    """Refuses each allocation of a test of the libraries in turn. The test reads from standard input the canonical text
+    of a text in form 2, a byte 0, and the text, which may have more bytes 0."""
     numbers = 0
-    for number, found in refusals(library, [LIBRARIES, REFUSED], text + b"\0" + canon):
+    for number, found in refusals(library, [LIBRARIES, REFUSED], canon + b"\0" + text):
         numbers = number
         assert found.status == 0, f"allocation {number} refused"
     assert numbers, f"{REFUSED} allocates"

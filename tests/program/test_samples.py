@@ -1,4 +1,4 @@
-"""Texts that were not written for dnorm: texts in the manner of the sample files of both Challenges, with their
+"""Texts that were not written for dnorm: texts in the manner of the sample files of the First Challenge, with their
 comments, and graphs of igraph's generators, which igraph writes as `max` texts. The program accepts each, its canonical
 text poses the same problem, and glpsol finds the same value, which the comments of the samples tell.
 
@@ -58,28 +58,6 @@ a 5 6 5
 c
 c End of file
 """,
-    "sp": b"""c 9th DIMACS Implementation Challenge: Shortest Paths
-c
-c Sample graph file
-c
-p sp 6 8
-c graph contains 6 nodes and 8 arcs
-c node ids are numbers in 1..6
-c
-a 1 2 17
-c arc from node 1 to node 2 of weight 17
-c
-a 1 3 10
-a 2 4 2
-a 3 5 0
-a 4 3 0
-a 4 6 3
-a 5 2 0
-a 5 6 20
-""",
-    "ss": b"c Sample auxiliary file\nc\np aux sp ss 3\nc file contains 3 source lines\nc\ns 1\ns 3\ns 5\n",
-    "p2p": b"c Sample auxiliary file\nc\np aux sp p2p 3\nc file contains 3 query lines\nc\nq 1 5\nq 5 1\nq 1 2\n",
-    "co": b"c Sample coordinate file\nc\np aux sp co 2\nc\nv 1 -73530767 41085396\nv 2 -73530538 41086098\n",
 }
 VALUES = {"min": 14, "max": 15}
 # Writes graphs as `max` texts into this folder, with random capacities.
@@ -109,14 +87,10 @@ def kept(often: Quick, kind: str, name: str, text: bytes) -> None:
         assert canonical(often, canon)[form - 1] == canon, f"{name}, form {form}"
 
 
-@pytest.mark.parametrize("kind", SAMPLES)
-def test_challenges(often: Quick, folder: str, kind: str) -> None:
-    kept(often, kind, "sample", SAMPLES[kind])
-
-
 @pytest.mark.parametrize("kind", VALUES)
-def test_values(often: Quick, kind: str) -> None:
+def test_values(often: Quick, folder: str, kind: str) -> None:
     need("glpsol")
+    kept(often, kind, "sample", SAMPLES[kind])
     glpsol = Quick(shutil.which("glpsol") or "")
     for text in [SAMPLES[kind], *canonical(often, SAMPLES[kind])]:
         assert solved(glpsol, kind, text) == VALUES[kind]

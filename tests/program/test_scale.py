@@ -3,24 +3,19 @@ the same. The texts are of all kinds, clean, noisy and with unusual spelling. Th
 to more than the text, and into one range up to more ranges than lines."""
 
 import os
-import pwd
 import random
 import shlex
 import shutil
 import signal
-import socket
 import subprocess
-import sys
 import time
 from typing import Any
 
 import pytest
-from needs import leave_out, need, pass_over, seeds
+from needs import pass_over, seeds
 from reading import MOST
 from shared import LIMIT, ROOT, Answer, pipe, run, said, text_of, write
 from texts import lines_of, made, spelled, spoilt
-
-from dnorm.parts.line import jobs_at_once
 
 pytestmark = pytest.mark.whole
 SCRIPT = f"{ROOT}/scale/canon-in-parts"
@@ -48,24 +43,12 @@ def terminals(count: int, *arcs: str) -> bytes:
 
 # Texts that one process reads whole, and texts whose head has a fault. No part of them is made.
 WHOLE = [
-    b"",
-    b"c only\n\n",
-    b"p sp 0 0",
-    b"p min 5 0\nn 2 7\nn 1 -7\nn 3 0\n",
-    b"p max 2 0\nn 2 s\nn 1 t\n",
-    b"p max 2 1\nn 1 s\n",
-    b"p aux sp ss 3\ns 3\ns 1\ns 1\n",
-    b"p aux sp co 2\nv 2 1 1\nv 1 5 5\n",
-    b"p aux sp co 2\nv 2 1 1\nv 2 5 5\n",
-    b"p max 1 2\na 1 1 5\na 1 1 6\n",
-    b"p max 1 2\nn 1 s\nn 1 t\na 1 1 5\n",
-    b"p sp 0 1\na 1 1 1\n",
-    b"a 1 2 3\np sp 2 1\n",
-    b"p aux sp ss 1\na 1 2 3\n",
-    b"p sp 2 0\na 1 2 3\n",
-    b"c\nq 1\np sp 2 1\na 1 2 3\n",
-    b"p sp 2 1\na 1 2 x\nb\n",
-]
+    b"", b"c only\n\n", b"p sp 0 0", b"p min 5 0\nn 2 7\nn 1 -7\nn 3 0\n", b"p max 2 0\nn 2 s\nn 1 t\n",
+    b"p max 2 1\nn 1 s\n", b"p aux sp ss 3\ns 3\ns 1\ns 1\n", b"p aux sp co 2\nv 2 1 1\nv 1 5 5\n",
+    b"p aux sp co 2\nv 2 1 1\nv 2 5 5\n", b"p max 1 2\na 1 1 5\na 1 1 6\n", b"p max 1 2\nn 1 s\nn 1 t\na 1 1 5\n",
+    b"p sp 0 1\na 1 1 1\n", b"a 1 2 3\np sp 2 1\n", b"p aux sp ss 1\na 1 2 3\n", b"p sp 2 0\na 1 2 3\n",
+    b"c\nq 1\np sp 2 1\na 1 2 3\n", b"p sp 2 1\na 1 2 x\nb\n",
+]  # fmt: skip
 # Texts in parts: the lines of a chunk, the number of ranges (0 for as many as chunks), the form, and the text.
 PARTS = [
     (1, 0, 1, NOISY),
@@ -98,63 +81,29 @@ PARTS = [
     (2, 2, 1, terminals(3, f"1 2 {MOST}", "1 2 1", "1 2 x")),
     (2, 2, 1, terminals(3, f"1 2 {MOST}", "1 2 x", "1 2 1")),
     (2, 0, 1, terminals(5, f"1 2 {MOST}", "1 2 1")),
+    # A node line behind an arc, in a chunk of its own.
+    (1, 2, 1, terminals(2, "1 2 3") + b"n 2 s\na 1 2 3\n"),
     (1, 2, 2, f"p min 3 3\na 1 2 {HALF} {HALF} {MOST}\na 1 2 0 5 -4\na 1 2 0 {HALF} 4\n".encode()),
     (1, 2, 2, f"p min 3 3\na 1 2 {HALF} {HALF} {MOST}\na 1 2 0 5 -4\na 1 2 0 {HALF - 6} 4\n".encode()),
 ]
 
 # Wrong command lines.
-BAD_WORDS = ["", "a b", "--form 3 -", "--lines 0 -", "--parts x -", "--jobs many -", "--color -", "-x", "- --lines"]
+BAD_WORDS = [
+    *["", "a b", "--color -", "-x", "- --lines", "--form 3 -", "--form nan -", "--lines 0 -", "--lines inf -"],
+    *["--parts x -", "--parts -1 -", "--jobs many -", "--jobs nan -", "--jobs 1.5 -", "--jobs +5 -", "--jobs 50% -"],
+]
 
-# This machine by itself, and by GNU parallel.
-MACHINES: list[list[str]] = [[], ["--sshlogin", ":"]]
-BY_MACHINE = pytest.mark.parametrize("machine", MACHINES, ids=["by itself", "by parallel"])
 # What a part does that fails, and what is said of it.
 FAILING = [
     ("kill -9 $$", "dnorm was ended by signal 9 (SIGKILL)"),
     ("echo 'out: 33 Write' >&2; exit 4", "33 Write"),
-    ("exit 7", "dnorm ended with status 7"),
+    ("exit 7", "dnorm did not answer as it should (its status was 7, and it printed '')"),
 ]
-# Signals that end the script while it reads, or makes parts of this text, and on which machine. Without a text, the
-# script waits for it.
-SIGNALS: list[tuple[signal.Signals, bytes, list[str]]] = [
-    (signal.SIGTERM, SUPPLIES, []),
-    (signal.SIGINT, b"", []),
-    (signal.SIGHUP, b"", []),
-    (signal.SIGINT, SUPPLIES, []),
-    (signal.SIGTERM, SUPPLIES, MACHINES[1]),
-    (signal.SIGINT, SUPPLIES, MACHINES[1]),
-]
-# A program that runs the command in braces for a part. Its other runs are those of the built program.
-STAND_IN = '#!/bin/bash\nif [[ $* == *--form* ]]; then {}; fi\nexec {} "$@"\n'
-
-SSHD_CONFIG = """\
-ListenAddress 127.0.0.1
-Port {port}
-HostKey {folder}/host
-AuthorizedKeysFile {folder}/user.pub
-ForceCommand bash {folder}/login
-StrictModes no
-PidFile none
-"""
-SSH_CONFIG = """\
-Host far
-    HostName 127.0.0.1
-    Port {port}
-    User {user}
-    IdentityFile {folder}/user
-    IdentitiesOnly yes
-    BatchMode yes
-    StrictHostKeyChecking no
-    UserKnownHostsFile /dev/null
-    LogLevel ERROR
-"""
-# What a login to the other machine runs: commands in a home of its own, which are also listed in a file.
-LOGIN = """\
-export HOME={folder}/home
-cd
-echo "$SSH_ORIGINAL_COMMAND" >> {folder}/asked
-exec bash -c "$SSH_ORIGINAL_COMMAND"
-"""
+# Signals that end the script while it reads, or makes parts of this text. Without a text, the script waits for it.
+SIGNALS = [(signal.SIGTERM, SUPPLIES), (signal.SIGINT, b""), (signal.SIGHUP, b""), (signal.SIGINT, SUPPLIES)]
+# A program that runs the command in braces for a part. Its other runs are those of the built program: for the version,
+# and for the head of the text, which comes first.
+STAND_IN = '#!/bin/bash\nif [[ $1 == canon ]] && ! mkdir "$0.head" 2> /dev/null; then {}; fi\nexec {} "$@"\n'
 
 
 class Scale:
@@ -184,15 +133,14 @@ class Scale:
     def stand_in(self, does: str) -> str:
         """Makes a program that runs this command in place of canonicalising a part."""
         path = f"{self.folder}/stand-in"
+        shutil.rmtree(f"{path}.head", ignore_errors=True)
         write(path, STAND_IN.format(does, shlex.quote(self.program)))
         os.chmod(path, 0o755)
         return path
 
 
 @pytest.fixture
-def scale(tested: str, folder: str, monkeypatch: pytest.MonkeyPatch) -> Scale:
-    # GNU parallel keeps its own files in a folder, and reads options from there.
-    monkeypatch.setenv("PARALLEL_HOME", f"{folder}/parallel")
+def scale(tested: str, folder: str) -> Scale:
     write("-n.min", SUPPLIES)
     return Scale(tested, folder)
 
@@ -249,39 +197,33 @@ def test_wrong_words(scale: Scale, words: str) -> None:
 
 def test_help() -> None:
     found = run([SCRIPT, "--help"])
-    assert (b"\nUsage: canon-in-parts " in found.out, found.err, found.status) == (True, b"", 0)
+    assert (found.out.startswith(b"usage: canon-in-parts "), found.err, found.status) == (True, b"", 0)
 
 
-@BY_MACHINE
-def test_out_of_memory(scale: Scale, machine: list[str]) -> None:
-    need(*["parallel"] * len(machine[:1]))
-    lacks = scale.stand_in("echo '-: 30 Memory' >&2; exit 4")
+def test_out_of_memory(scale: Scale) -> None:
     wanted = said(b"", b"./-n.min: 30 Memory\n", 4)
-    assert scale.run("--lines", "3", *machine, "./-n.min", tested=lacks) == wanted
+    lacks = scale.stand_in("echo '-: 30 Memory' >&2; exit 4")
+    assert scale.run("--lines", "3", "./-n.min", tested=lacks) == wanted
     # Only the last chunk runs out of memory, while the first one is still in progress.
     lacks = scale.stand_in("grep -q '^a 4 4 2' || exec sleep 30; echo '-: 30 Memory' >&2; exit 4")
     started = time.monotonic()
-    assert scale.run("--lines", "8", "--jobs", "2", *machine, "./-n.min", tested=lacks) == wanted
+    assert scale.run("--lines", "8", "--jobs", "2", "./-n.min", tested=lacks) == wanted
     assert time.monotonic() - started < 20, "it ends at once"
 
 
-@BY_MACHINE
 @pytest.mark.parametrize("does, line", FAILING)
-def test_failing_part(scale: Scale, machine: list[str], does: str, line: str) -> None:
-    need(*["parallel"] * len(machine[:1]))
-    found = scale.run("--lines", "3", *machine, "./-n.min", tested=scale.stand_in(does))
-    end = f"canon-in-parts: a part failed: {line}\n".encode()
-    assert (found.out, found.err[-len(end) :], found.status) == (b"", end, 4)
+def test_failing_part(scale: Scale, does: str, line: str) -> None:
+    found = scale.run("--lines", "3", "./-n.min", tested=scale.stand_in(does))
+    assert found == said(b"", f"canon-in-parts: a part failed: {line}\n", 4)
 
 
-@pytest.mark.parametrize("number, text, machine", SIGNALS)
-def test_signal(scale: Scale, heeded: None, number: signal.Signals, text: bytes, machine: list[str]) -> None:
+@pytest.mark.parametrize("number, text", SIGNALS)
+def test_signal(scale: Scale, heeded: None, number: signal.Signals, text: bytes) -> None:
     """A script that a signal ends, while it makes parts or reads, leaves no files and no processes."""
-    need(*["parallel"] * len(machine[:1]))
     begun = f"{scale.folder}/begun"
     waits = scale.stand_in(f"echo $$ >> {shlex.quote(begun)}; exec sleep 30")
     write(begun, "")
-    started = subprocess.Popen(scale.words("--lines", "3", *machine, "-", tested=waits), stdin=subprocess.PIPE)
+    started = subprocess.Popen(scale.words("--lines", "3", "-", tested=waits), stdin=subprocess.PIPE)
     if text:
         pipe(started.stdin).write(text)
         pipe(started.stdin).close()
@@ -302,45 +244,16 @@ def is_running(process: str) -> bool:
         return False
 
 
-# What the `./dnorm` and the tools/program of a clone do, in sh, with what canon-in-parts calls of them, and its status.
-CLONES = {
-    "a program": ("echo own >> log", "echo found >> log; echo $P", "found", 0),
-    "a program that is built first": (
-        "echo own >> log",
-        "echo found >> log; ! grep -q own log || echo $P; grep -q own log",
-        "found own found",
-        0,
-    ),
-    "no program": ("echo own >> log; exit 125", "echo found >> log; exit 125", "found own", 125),
-}
-
-
-@pytest.mark.parametrize("what", CLONES)
-def test_clone(tested: str, folder: str, what: str) -> None:
-    """Which program canon-in-parts of a clone takes."""
-    own, finder, log, status = CLONES[what]
-    for it in ["scale", "tools"]:
-        os.makedirs(f"clone/{it}")
+@pytest.mark.parametrize("own, status", [('exec "$P" "$@"', 0), ("exit 125", 125)])
+def test_clone(tested: str, folder: str, own: str, status: int) -> None:
+    """canon-in-parts of a clone takes the `./dnorm` of it, and has its status where it cannot build the program."""
+    os.makedirs("clone/scale")
     os.symlink(f"{ROOT}/python", "clone/python")
-    write("clone/crates.txt", "")
     shutil.copy(SCRIPT, "clone/scale/canon-in-parts")
-    for path, text in [("clone/dnorm", own), ("clone/tools/program", finder)]:
-        write(path, f"#!/bin/sh\nP={shlex.quote(tested)}\n{text}\n")
-        os.chmod(path, 0o755)
-    found = run(["clone/scale/canon-in-parts", "--lines", "2", "-"], SUPPLIES)
-    assert (found.status, text_of("log").split()) == (status, log.split()), found
-    assert found.out == (run([tested, "canon", "-"], SUPPLIES).out if not status else b"")
-
-
-# What --jobs takes, and how many jobs that is with 8 processors, as GNU parallel has it.
-JOBS = {"1": 1, "3": 3, "0": 1000, "+1": 9, "-1": 7, "-99": 1, "50%": 4, "1%": 1, "300%": 24}
-
-
-@pytest.mark.parametrize("jobs", JOBS)
-def test_jobs(scale: Scale, monkeypatch: pytest.MonkeyPatch, jobs: str) -> None:
-    assert scale.run("--lines=2", f"--jobs={jobs}", "-", given=SUPPLIES) == run([scale.program, "canon", "-"], SUPPLIES)
-    monkeypatch.setattr("dnorm.parts.line.processors", lambda: 8)
-    assert (jobs_at_once(jobs), jobs_at_once(None)) == (JOBS[jobs], 8)
+    write("clone/dnorm", f"#!/bin/sh\nP={shlex.quote(tested)}\n{own}\n")
+    os.chmod("clone/dnorm", 0o755)
+    wanted = run([tested, "canon", "-"], SUPPLIES).out if not status else b""
+    assert run(["clone/scale/canon-in-parts", "--lines", "2", "-"], SUPPLIES) == said(wanted, b"", status)
 
 
 @pytest.mark.parametrize("count", [1, 3])
@@ -353,85 +266,9 @@ def test_jobs_at_once(scale: Scale, count: int) -> None:
     assert max(sum(steps[:at]) for at in range(len(steps) + 1)) == count
 
 
-@pytest.mark.parametrize(
-    "words", ["--jobs nan", "--jobs 1.5", "--jobs +50%", "--lines inf", "--parts -1", "--form nan"]
-)
-def test_no_numbers(scale: Scale, words: str) -> None:
-    found = scale.run(*words.split(), "-", given=SUPPLIES)
-    assert (found.out, found.status, len(found.err.splitlines())) == (b"", 3, 1)
-
-
-def test_without_parallel(scale: Scale) -> None:
-    os.mkdir("bin")
-    os.symlink(sys.executable, "bin/python3")
-    alone = {**os.environ, "PATH": f"{scale.folder}/bin"}
-    wanted = run([scale.program, "canon", "-"], SUPPLIES)
-    assert scale.run("--lines=2", "-", given=SUPPLIES, env=alone) == wanted
-    line = "canon-in-parts: GNU parallel is missing (on Debian: apt-get install parallel)\n"
-    assert scale.run("--lines=2", "--sshlogin=:", "-", given=SUPPLIES, env=alone) == said(b"", line, 4)
-
-
 @pytest.mark.parametrize("name", ["python2.7", "python3.6", "python3.7", "python3.8"])
 def test_old_python(scale: Scale, name: str) -> None:
     # A shim of pyenv is there for a Python that is not.
     if not shutil.which(name) or run([name, "--version"]).status:
         pass_over(name)
     assert run([name, *scale.words("-")], SUPPLIES) == said(b"", b"canon-in-parts: it needs Python 3.9 or later\n", 4)
-
-
-def test_other_machine(scale: Scale) -> None:
-    """Parts made on another machine, which is this one by ssh."""
-    tools = ["parallel", "sshd", "ssh", "ssh-keygen", "rsync"]
-    found = {it: shutil.which(it, path=f"{os.environ['PATH']}:/usr/sbin") or "" for it in tools}
-    if not all(found.values()):
-        leave_out(", ".join(it for it in tools if not found[it]))
-    try:
-        user = pwd.getpwuid(os.geteuid()).pw_name
-    except KeyError:
-        pass_over("a user who has a name")
-    started = listening(scale.folder, found, user)
-    if started.poll() is not None:
-        pass_over(f"an sshd that starts ({in_one_line(pipe(started.stderr).read())})")
-    try:
-        far(scale)
-    finally:
-        started.terminate()
-        started.wait(LIMIT)
-
-
-def in_one_line(said: bytes) -> str:
-    return " ".join(said.decode(errors="replace").split())
-
-
-def far(scale: Scale) -> None:
-    """Tests parts made on the machine to which ssh logs in, if it lets the test log in."""
-    login = ["ssh", "-F", f"{scale.folder}/ssh", "far"]
-    refused = run([*login, "true"])
-    if refused.status:
-        pass_over(f"a login by ssh ({in_one_line(refused.err)})")
-    both = ["--sshlogin", " ".join(login), "--sshloginfile", f"{scale.folder}/here"]
-    scale.parts(SUPPLIES, 8, 1, 2, "--jobs=1", *both)
-    assert "GNU_Parallel_worker" in text_of("asked"), "parts were made there"
-    assert os.listdir("home") == [], "files left there"
-
-
-def listening(folder: str, tools: dict[str, str], user: str) -> subprocess.Popen[bytes]:
-    """Returns an sshd that listens, or one that has ended."""
-    with socket.create_server(("127.0.0.1", 0)) as free:
-        port = free.getsockname()[1]
-    os.mkdir(f"{folder}/home")
-    for name in ["host", "user"]:
-        subprocess.run([tools["ssh-keygen"], "-q", "-N", "", "-f", f"{folder}/{name}"], check=True)
-    values = {"folder": folder, "port": port, "user": user}
-    for name, text in [("sshd", SSHD_CONFIG), ("ssh", SSH_CONFIG), ("login", LOGIN)]:
-        write(f"{folder}/{name}", text.format(**values))
-    write(f"{folder}/here", ":\n")
-    words = [tools["sshd"], "-D", "-e", "-f", f"{folder}/sshd"]
-    started = subprocess.Popen(words, stderr=subprocess.PIPE)
-    while started.poll() is None:
-        try:
-            socket.create_connection(("127.0.0.1", port)).close()
-            break
-        except ConnectionRefusedError:
-            time.sleep(0.05)
-    return started

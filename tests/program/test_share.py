@@ -1,40 +1,30 @@
-"""The help texts, and the pages and completions that say the same. No line of a help text is wider than 80 columns, and
-the examples in it print what it says. The manual page and the completions name every command and every option of the
-program's help. The manual page has every line that the help explains, and the version. The help, the manual page and
-the sources have the same refusals by number and name. groff shows the pages without a warning."""
+"""The help, and the manual pages that tools/generate makes of it. No line of the program's help is wider than 80
+columns, and the examples in it print what it says. The pages have every line of it, every option and the version, and
+groff shows them without a warning. The help and the sources have the same refusals."""
 
 import re
+import shutil
 import sys
 from collections.abc import Callable
 
 import pytest
 from needs import need
-from shared import ROOT, Answer, run, said, text_of
+from refusal_table import faults, refusals
+from shared import ROOT, Answer, run, said, text_of, write
 
-SHARE = f"{ROOT}/share"
-PAGE, PARTS_PAGE, FILES_PAGE, EXPLAIN_PAGE = (
-    f"{SHARE}/man/man1/{it}.1" for it in ["dnorm", "canon-in-parts", "dnorm-files", "dnorm-explain"]
-)
-LIBRARY_PAGES = [f"{SHARE}/man/man3/{it}.3" for it in ["dnorm.h", "dnorm_tools.h"]]
+from dnorm.commands.line import TASKS
+
 FILES, PARTS = f"{ROOT}/dnorm-files", f"{ROOT}/scale/canon-in-parts"
-# The files of completions, where COMMAND is a command.
-COMPLETIONS = {
-    "bash": f"{SHARE}/bash-completion/completions/COMMAND",
-    "zsh": f"{SHARE}/zsh/site-functions/_COMMAND",
-    "fish": f"{SHARE}/fish/vendor_completions.d/COMMAND.fish",
-}
-# The usual causes of refusals, after this line of the help and of the manual page.
-CAUSES = "Usual causes that the line itself does not show:\n"
-CAUSE_IN_HELP = re.compile(r"^  (\S.*?) {2,}(.+(?:\n {29}.+)*)$", re.M)
-CAUSE_IN_PAGE = re.compile(r"^\.B (.+)\n(.+)$", re.M)
+PAGES = [f"man1/{it}.1" for it in ["dnorm", "dnorm-files", "dnorm-explain", "canon-in-parts"]]
+PAGES += [f"man3/{it}.3" for it in ["dnorm.h", "dnorm_tools.h"]]
 WIDTH = 80
 COMMAND = re.compile(r"^  (\w+)  ", re.M)
-OPTION = re.compile(r"^ +(-\w)?(?:, )?(--[\w-]+)", re.M)
-# A line that a command prints, as its help explains it; and an example in the help.
-LINE = re.compile(
-    r"^  ((?:accepted|fits|forms|same|differ|kind|nodes|lines|supplies|source|sink|pairs?)(?: \S+)*)", re.M
-)
+OPTION = re.compile(r"^  +(?:-\w(?: \w+)?, +)?(--[\w-]+)", re.M)
+# An example in the help, and a refusal: its number, its name and its sentence.
 EXAMPLE = re.compile(r"^  \$ dnorm (.+)\n((?:  .+\n)+)", re.M)
+REFUSAL = re.compile(r"^ {2,3}(\d+) (\w+) {2,}(.+(?:\n {22}.+)*)$", re.M)
+# What a page has in place of a sign.
+SIGNS = {"\\-": "-", "\\(ha": "^", "\\(aq": "'", "\\e": "\\", "\\&": "", "\\fB": "", "\\fI": "", "\\fR": ""}
 
 COMMANDS = ["check", "canon", "compare", "show", "help"]
 # All ways to ask for help.
@@ -42,10 +32,12 @@ CALLS = ["help", "-h", "--help", *(f"help {it}" for it in COMMANDS)]
 CALLS += [f"{it} {option}" for it in COMMANDS if it != "help" for option in ["-h", "--help"]]
 
 
-def plain(text: str) -> str:
-    """Returns a manual page without fonts, requests and line ends."""
-    text = re.sub(r"^\.(?:[BI]|[BIR]{2}|TP|PP|IP|RS|RE|SH|SY|YS|EX|EE)\b", "", text, flags=re.M)
-    return " ".join(re.sub(r"\\f.", "", text).replace("\\-", "-").split())
+def plain(page: str) -> str:
+    """Returns the words of a manual page."""
+    text = re.sub(r"^\.(?:PP|TP|SH|in|EX|EE|nf|fi)\b.*\n", "", text_of(page), flags=re.M)
+    for sign, it in SIGNS.items():
+        text = text.replace(sign, it)
+    return " ".join(text.split())
 
 
 @pytest.fixture(name="help_of")
@@ -54,40 +46,9 @@ def helps(tested: str) -> Callable[[str], str]:
     return lambda words: run([tested, *words.split()]).out.decode()
 
 
-def commands_of(help_text: str) -> list[str]:
-    """Returns the commands that the help of the program names."""
-    return COMMAND.findall(help_text.split("Commands:")[1].split("Options:")[0])
-
-
-def unnamed(path: str, words: list[str]) -> list[str]:
-    """Returns the commands and options that a file does not name."""
-    text = text_of(path).replace("\\-", "-")
-    return [it for it in words if not re.search(rf"(?<![\w-]){re.escape(in_fish(it, path))}(?![\w-])", text)]
-
-
-def in_fish(word: str, path: str) -> str:
-    """Returns how a file names a command or an option: one for fish has its own way."""
-    if not path.endswith(".fish") or not word.startswith("-"):
-        return word
-    return f"-l {word[2:]}" if word.startswith("--") else f"-s {word[1:]}"
-
-
-def files_of(page: str, command: str) -> list[str]:
-    return [page, *(it.replace("COMMAND", command) for it in COMPLETIONS.values())]
-
-
 def test_commands(help_of: Callable[[str], str]) -> None:
-    assert sorted(commands_of(help_of("help"))) == sorted(COMMANDS)
-
-
-@pytest.mark.parametrize("path", files_of(PAGE, "dnorm"))
-def test_names(help_of: Callable[[str], str], path: str) -> None:
-    """Each command and option is named."""
-    helps = [help_of("help"), *(help_of(f"help {it}") for it in COMMANDS if it != "help")]
-    parts = [re.split(r"\n\n(?=\S)", it.split("Options:")[1])[0] for it in helps]
-    options = sorted({it for part in parts for found in OPTION.findall(part) for it in found if it})
-    assert "--form" in options
-    assert unnamed(path, COMMANDS + options) == []
+    told = help_of("help").split("Commands:")[1].split("Options:")[0]
+    assert sorted(COMMAND.findall(told)) == sorted(COMMANDS)
 
 
 @pytest.mark.parametrize("words", CALLS)
@@ -98,84 +59,69 @@ def test_width(help_of: Callable[[str], str], words: str) -> None:
 
 @pytest.mark.parametrize("command", COMMANDS)
 def test_explained_lines(help_of: Callable[[str], str], tested: str, command: str) -> None:
-    """The examples print what the help says, and the manual page has the lines that are explained."""
-    shown, text = help_of(f"help {command}"), plain(text_of(PAGE))
-    assert [it for it in LINE.findall(shown) if it not in text] == []
-    examples = EXAMPLE.findall(f"{shown}\n")
+    """The examples print what the help says."""
+    examples = EXAMPLE.findall(f"{help_of(f'help {command}')}\n")
     assert len(examples) == int(command != "help")
     for line, lines in examples:
         found = run([tested, *line.split()], cwd=f"{ROOT}/examples")
         assert found.out.decode() == re.sub("^  ", "", lines, flags=re.M), line
 
 
-def test_refusals(tested: str) -> None:
-    """All lists of the refusals, that of the help among them, are as in the table of refusals."""
-    assert run([sys.executable, f"{ROOT}/tools/refusals", tested]) == said()
+@pytest.mark.parametrize("command", ["", *COMMANDS])
+def test_page(help_of: Callable[[str], str], made: str, command: str) -> None:
+    """The page has the whole help."""
+    assert " ".join(help_of(f"help {command}").split()) in plain(f"{made}/share/man/{PAGES[0]}")
 
 
-def test_causes(help_of: Callable[[str], str]) -> None:
-    causes = CAUSE_IN_HELP.findall(help_of("help").partition(CAUSES)[2].partition("\n\n")[0])
-    paged = CAUSE_IN_PAGE.findall(text_of(PAGE).partition(CAUSES)[2].partition("\n.PP\n")[0])
-    assert causes and [(name, plain(it)) for name, it in paged] == [(name, plain(it)) for name, it in causes]
+def test_pages_of_package(made: str) -> None:
+    """The pages have all options, and no others."""
+    told = run([FILES, "--help"]).out.decode() + "".join(run([FILES, it, "--help"]).out.decode() for it in TASKS)
+    for page, text in zip([PAGES[1], PAGES[3]], [told, run([PARTS, "--help"]).out.decode()]):
+        paged = text_of(f"{made}/share/man/{page}").replace(r"\-", "-")
+        found = re.findall(r"^\.TP\n(?:\\fB-\w\\fR, )?\\fB(--[\w-]+)", paged, re.M)
+        assert {*OPTION.findall(text)} == {*found}, page
 
 
-def test_page_of_library() -> None:
-    assert run([sys.executable, f"{ROOT}/tools/c-page"]) == said()
+def test_refusals(help_of: Callable[[str], str]) -> None:
+    """The help has the refusals of the table, and all other lists of them are as in the table."""
+    told = [(int(number), name, " ".join(it.split())) for number, name, it in REFUSAL.findall(help_of("help"))]
+    assert told == [(it.number, it.name, it.sentence) for it in refusals()]
+    assert run([sys.executable, f"{ROOT}/tools/lists"]) == said()
 
 
-@pytest.mark.parametrize("path", [PAGE, *LIBRARY_PAGES])
-def test_version(help_of: Callable[[str], str], path: str) -> None:
-    assert f'"{help_of("--version").strip()}"' in plain(text_of(path))
-
-
-@pytest.mark.parametrize("path", [PAGE, FILES_PAGE, PARTS_PAGE, EXPLAIN_PAGE, *LIBRARY_PAGES])
-def test_groff(path: str) -> None:
+@pytest.mark.parametrize("page", PAGES)
+def test_groff(help_of: Callable[[str], str], made: str, page: str) -> None:
     need("groff")
-    assert run(["groff", "-man", "-Tutf8", "-ww", path]).err == b""
+    assert run(["groff", "-man", "-Tutf8", "-ww", f"{made}/share/man/{page}"]).err == b""
+    assert f'"{help_of("--version").strip()}"' in plain(f"{made}/share/man/{page}")
 
 
-def test_canon_in_parts(tested: str) -> None:
-    """The manual page and the completions of canon-in-parts name the options that its help names, and the page no
-    others; and it prints its version."""
-    told = run([PARTS, "--help"]).out.decode()
-    options = {long for _, long in OPTION.findall(told.split("Usage:")[1].split("\n\nIt needs")[0])}
-    assert len(options) == 9
-    for path in files_of(PARTS_PAGE, "canon-in-parts"):
-        assert unnamed(path, sorted(options)) == [], path
+# A row of a new rule, before this one, and the files in which the rule is then written by hand.
+ROW, NEXT = "{:2}   65  MadeUp           DNORM_MADE_UP             A rule is made up.\n", "30    -  Memory"
+BY_HAND = {
+    *("crates/dn_line/src/code.rt", "crates/dn_line/specs or crates/dn_instance/specs", "docs/FORMAT.md"),
+    *("crates/dn_line/src or crates/dn_instance/src", "crates/dn_laws/src/instances/examples.rt", "examples/refused"),
+    *("crates/dn_tests/src/commands.rt", "share/conformance/cases.json", "bench/baselines/btree.rs"),
+}
+
+
+@pytest.mark.whole
+def test_rule(folder: str) -> None:
+    """What tools/lists names of a new rule, once it has written all lists; and that it refuses a gap in the numbers."""
+    shutil.copytree(ROOT, "copy", ignore=shutil.ignore_patterns(".git", "out", "released", "__pycache__"))
+    before, _, after = text_of("copy/share/refusals.txt").partition(NEXT)
+    number = faults()[-1].number + 1
+    write("copy/share/refusals.txt", f"{before}{ROW.format(number + 1)}{NEXT}{after}")
+    gap = f"share/refusals.txt: {number} is missing, the number before {number + 1} MadeUp\n"
+    assert run(["copy/tools/lists", "--write"]) == said(gap, status=1)
+    write("copy/share/refusals.txt", f"{before}{ROW.format(number)}{NEXT}{after}")
+    found = run(["copy/tools/lists", "--write"])
+    assert (found.err, found.status) == (b"", 1)
+    assert {it.partition(":")[0] for it in found.out.decode().splitlines()} == BY_HAND
+    assert run(["copy/tools/lists"]) == found
+
+
+def test_version_of_parts(tested: str) -> None:
     version = run([tested, "--version"]).out.replace(b"dnorm ", b"canon-in-parts (dnorm) ")
     for word in ["--version", "-V"]:
         assert run([PARTS, "--program", tested, word]) == Answer(version, b"", 0)
-    assert set(re.findall(r"--\w+", text_of(PARTS_PAGE).replace("\\-", "-"))) == options | {"--help"}
-
-
-def test_dnorm_files() -> None:
-    """The manual page and the completions of dnorm-files name the commands and the options that its help names, and the
-    page no other options."""
-    told = run([FILES, "--help"]).out.decode()
-    commands = re.findall(r"^    (\w+)  ", told, re.M)
-    assert len(commands) == 8
-    helps = "".join(run([FILES, it, "--help"]).out.decode() for it in commands[:5])
-    options = set(re.findall(r"^  (?:-\w(?: \w+)?, )?(--[\w-]+)", told + helps, re.M))
-    for path in files_of(FILES_PAGE, "dnorm-files"):
-        assert unnamed(path, [*commands, *sorted(options)]) == [], path
-    assert set(re.findall(r"--[\w-]+", text_of(FILES_PAGE).replace("\\-", "-"))) == options
-
-
-def paths_named() -> list[str]:
-    return re.findall(r"`tools/path ((?!CRATE)[^`]+)`", text_of(f"{ROOT}/docs/ARCHITECTURE.md"))
-
-
-@pytest.mark.parametrize("words", paths_named())
-def test_paths(words: str) -> None:
-    """The commands by which docs/ARCHITECTURE.md shows where functions lead."""
-    ran = run([f"{ROOT}/tools/path", *words.split()])
-    assert not ran.status and not ran.err and len(ran.out.splitlines()) > 2
-
-
-def test_paths_from_main() -> None:
-    assert "dnorm main" in paths_named()
-    entered = {it.split()[0] for it in run([f"{ROOT}/tools/path", "dnorm", "main"]).out.decode().splitlines()}
-    wanted = {"run_on", "LineReader::step", "PairIndex::find", "write_canon", "Stop::tell", "HostText::read"}
-    assert wanted - entered == set()
-    told = "tools/path: dnorm has no function none\n"
-    assert run([f"{ROOT}/tools/path", "dnorm", "none"]) == said("", told, 1)

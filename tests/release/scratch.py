@@ -5,15 +5,12 @@ import shutil
 from typing import NamedTuple
 
 from needs import leave_out
-from shared import DEFINITIONS, ROOT, Answer, links_listed, listed, run, source_of, write
+from shared import ROOT, Answer, links_listed, listed, run, write
 
 OUT = "crates/dnorm/out"
-# What is built for aarch64, which Git does not have.
-BUILT = [f"aarch64/{it}" for it in ["dnorm", "dnorm.o", "dn_c.a", "runtime.o", "heap.o"]]
-BUILT += [f"aarch64/lib/{it}" for it in ["libdnorm.a", "libdnorm.so.2"]]
 # What released/ has, besides its page.
 RELEASED = ["SHA256SUMS", "aarch64/dnorm.gz", "buildinfo"]
-RELEASED += [f"x86_64/{it}" for it in ["dnorm", "libdnorm.a.gz", "libdnorm.so.2.gz"]]
+RELEASED += [f"x86_64/{it}" for it in ["dnorm", "libdnorm.a.gz", "libdnorm.so.3.gz"]]
 # What tools/release runs on the program for aarch64.
 FOR_AARCH64 = "tests/program/test_aarch64.py"
 # Scripts that take the places of others in a scratch repository: the first one says whether the files are there, and
@@ -24,27 +21,13 @@ SCRIPTS = {
     "tools/aarch64": f"[ -e {OUT}/aarch64/dnorm ]",
     "tests/run": f'[ "$*" = "$PWD/{OUT}/aarch64/dnorm -- {FOR_AARCH64}" ] && [ "$CI" = true ]',
 }
-# The files that a release is made with, besides the installed ones.
-WITH = [".gitignore", "kit.txt", "install", "share/installed.txt", "c/runtime-aarch64.c", "c/dnorm.map"]
-WITH += ["tools/release", "tools/shipped", "tools/pages.py", "tools/wheel.py", "tools/kit.py", "tests/shared.py"]
-WITH += ["tools/link-program", "tools/hidden-object", "tools/source-sum", "tools/program", "tools/find-program.sh"]
-WITH += [f"tools/debian/{it}" for it in os.listdir(f"{ROOT}/tools/debian")]
+# What a scratch repository does not have of this one.
+WITHOUT = shutil.ignore_patterns(".git", "out", "dist", "released", "__pycache__", ".*_cache")
 # The author of the commits and their time; and that time as tar prints it.
 WHO = {"NAME": "A B", "EMAIL": "a@example.org", "DATE": "2026-01-02T03:04:05+00:00"}
 TIME = 1767323045
 # How many seconds a release may take.
 MOST = 300
-# Files whose path in the package differs from that of ./install, or that the package lacks.
-MOVED = {
-    "share/doc/dnorm/CHANGELOG.md": "share/doc/dnorm/changelog.gz",
-    "share/man/man1/canon-in-parts.1": "share/man/man1/canon-in-parts.1.gz",
-    "share/man/man1/dnorm-explain.1": "share/man/man1/dnorm-explain.1.gz",
-    "share/man/man1/dnorm-files.1": "share/man/man1/dnorm-files.1.gz",
-    "share/man/man1/dnorm.1": "share/man/man1/dnorm.1.gz",
-    "share/zsh/site-functions/_canon-in-parts": "share/zsh/vendor-completions/_canon-in-parts",
-    "share/zsh/site-functions/_dnorm-files": "share/zsh/vendor-completions/_dnorm-files",
-    "share/zsh/site-functions/_dnorm": "share/zsh/vendor-completions/_dnorm",
-}
 # What the conformance suite prints for its rule `first`.
 FIRST = "6 cases pass, 0 fail (level canon)\n"
 # The folders of what the packages of the library have.
@@ -56,7 +39,12 @@ SOURCES = "python/src/dnorm/"
 MODULES = sorted(it.removeprefix("python/src/") for _, it, _ in listed() if it.startswith(SOURCES))
 # The conformance suite, which the wheels have as a module.
 SUITE = {"dnorm/cases.json": "share/conformance/cases.json", "dnorm/conformance.py": "share/conformance/run.py"}
-WITH += ["python/pyproject.toml", "python/README.md"]
+
+
+def in_package(path: str) -> str:
+    """Returns where the package of the program has a file that ./install puts at this path."""
+    moved = path.replace("zsh/site-functions", "zsh/vendor-completions").replace("CHANGELOG.md", "changelog.gz")
+    return f"{moved}.gz" if moved.startswith("share/man/") else moved
 
 
 def all_below(folder: str) -> dict[str, int]:
@@ -97,7 +85,7 @@ class Port:
         self.machine, self.name = machine, f"dnorm-{version}-{machine.name}-linux"
         self.archive = f"{self.name}.tar.gz"
         self.package = f"dnorm_{version.replace('-', '~')}-1_{machine.debian}.deb"
-        self.shared, self.headers = (self.package.replace("dnorm", it, 1) for it in ["libdnorm2", "libdnorm-dev"])
+        self.shared, self.headers = (self.package.replace("dnorm", it, 1) for it in ["libdnorm3", "libdnorm-dev"])
         self.wheel = f"dnorm-{version.replace('-dev', '.dev0')}-py3-none-{'.'.join(machine.platforms)}.whl"
         self.files = [self.archive, self.package, self.shared, self.headers, self.wheel]
         self.root = f"{folder}/{machine.name}"
@@ -109,32 +97,23 @@ class Place:
 
     def __init__(self, folder: str, tested: str, origin: str = "") -> None:
         self.folder, self.dist, self.has_commit = folder, f"{folder}/dist", bool(origin)
-        os.makedirs(folder)
-        self.git(*(["clone", "-q", origin, "."] if origin else ["init", "-q"]))
-        files = {f"{ROOT}/{it}": it for it in WITH} | {source_of(it, f"{ROOT}/dnorm"): it for _, it, _ in listed()}
-        for source, place in files.items():
-            if place.startswith(("include/", "lib/")):
-                # Git does not have it.
-                place = f"c/out/{place}"
-            elif origin:
-                continue
-            os.makedirs(os.path.dirname(f"{folder}/{place}"), exist_ok=True)
-            shutil.copy(source, f"{folder}/{place}")
-        if not origin:
-            # The crates are empty here.
-            for name in ["crates.txt", "crates/dnorm/src/main.rt", "crates/dn_c/src/lib.rt"]:
-                os.makedirs(os.path.dirname(f"{folder}/{name}"), exist_ok=True)
-                write(f"{folder}/{name}", "dnorm:\ndn_c staticlib:\n" if name == "crates.txt" else "")
-            # The sources of the page of definitions are not here.
-            for name, body in {**SCRIPTS, "tools/definitions": f"cat '{folder}/{DEFINITIONS}'"}.items():
+        if origin:
+            os.makedirs(folder)
+            self.git("clone", "-q", origin, ".")
+        else:
+            shutil.copytree(ROOT, folder, ignore=WITHOUT)
+            self.git("init", "-q")
+            for name, body in SCRIPTS.items():
                 write(f"{folder}/{name}", f"#!/bin/sh\n{body}\n")
-                os.chmod(f"{folder}/{name}", 0o755)
-        for it in [f"{OUT}/rlib", f"{OUT}/aarch64/lib", "crates/dn_c/out/library"]:
-            os.makedirs(f"{folder}/{it}")
-        shutil.copy(tested, f"{folder}/{OUT}/dnorm")
-        for it in [f"{OUT}/rlib/dnorm.o", "crates/dn_c/out/library/dn_c.a", *(f"{OUT}/{name}" for name in BUILT)]:
+        # What is built here, which git does not have.
+        for it in ["c/out/include", "c/out/lib", f"{OUT}/aarch64"]:
+            if os.path.exists(f"{ROOT}/{it}"):
+                shutil.copytree(f"{ROOT}/{it}", f"{folder}/{it}", symlinks=True)
+        for it in [f"{OUT}/rlib/dnorm.o", "crates/dn_c/out/library/dn_c.a"]:
+            os.makedirs(os.path.dirname(f"{folder}/{it}"))
             if os.path.exists(f"{ROOT}/{it}"):
                 shutil.copy(f"{ROOT}/{it}", f"{folder}/{it}")
+        shutil.copy(tested, f"{folder}/{OUT}/dnorm")
         write(f"{folder}/{OUT}/built", run([f"{folder}/tools/source-sum", "--list", "program"]).out)
         write(f"{folder}/c/out/built", "")
 

@@ -78,19 +78,13 @@ EDITS = {
     "alike": ("second(n) + 1", "1 + second(n)", "FAILED: it is still proved"),
     "constant": ("ONE: u32 = 1", "ONE: u32 = 2", "refused by next, returns at src/lib.rt:8"),
     "no-code": ("second(n) + 1", "fourth(n) + 1", r"FAILED: it does not compile: src/lib.rt:34:5: error\[.*"),
-    "other-name": (
-        "for i in 0..n { count = i as u32 + 1; }",
-        "for k in 0..n { count = k as u32 + 1; }",
-        "FAILED: it takes away a name that a proof file cites: counted, invariant-loop-i: .*",
-    ),
+    "other-name": ("for i in 0..n { count = i as u32 + 1; }", "for k in 0..n { count = k as u32 + 1; }",
+                   "FAILED: it takes away a name that a proof file cites: counted, invariant-loop-i: .*"),
     "other-number": ("next(n) + 1", "next(n) + 2", "refused by second, the answer of returns"),
     "twice": ("n: u8", "n: u16", "FAILED: it cannot be applied: 'n: u8' stands 4 times in 'src/lib.rt'"),
-    "two-ways": (
-        "next(n) + 1",
-        "if n == 0 { 2 } else { next(n) + 1 }",
-        "FAILED: it takes away a name that a proof file cites: second, returns: .*",
-    ),
-}
+    "two-ways": ("next(n) + 1", "if n == 0 { 2 } else { next(n) + 1 }",
+                 "FAILED: it takes away a name that a proof file cites: second, returns: .*"),
+}  # fmt: skip
 REFUSED = ["constant", "other-number"]
 
 

@@ -8,10 +8,8 @@ Of what is made for aarch64, the paths, the fields and the processor of the file
 run: the scratch repositories have what tools/aarch64 has built, and scripts in the place of tools/aarch64 and
 tests/run. The tests run in one process, in this order, since they share the releases."""
 
-import base64
 import glob
 import gzip
-import hashlib
 import os
 import re
 import shutil
@@ -24,28 +22,8 @@ import pytest
 from builds import by_cmake
 from known import CANONICAL, ROADS, ROADS_CANON, rows
 from needs import leave_out, need, pass_over
-from scratch import (
-    FOR_AARCH64,
-    ADDED,
-    FIRST,
-    MACHINES,
-    MODULES,
-    MOVED,
-    OF_LIBRARY,
-    OUT,
-    RELEASED,
-    SCRIPTS,
-    SUITE,
-    TIME,
-    WHO,
-    Made,
-    Place,
-    Port,
-    all_below,
-    all_listed,
-    files_of,
-    tool_of,
-)
+from scratch import ADDED, FIRST, FOR_AARCH64, MACHINES, MODULES, OF_LIBRARY, OUT, RELEASED, SCRIPTS, SUITE, TIME, WHO
+from scratch import Made, Place, Port, all_below, all_listed, files_of, in_package, tool_of
 from shared import ROOT, Answer, bytes_of, links_listed, listed, python_with, run, said, text_of, write
 
 pytestmark = [pytest.mark.whole, pytest.mark.xdist_group("release")]
@@ -220,7 +198,7 @@ def test_archive(made: Made, port: Port) -> None:
     assert found_links == links_listed()
     assert files_of(all_below(port.tree)) == wanted
     assert {it.mode for it in members if it.isdir()} == {0o755}, "its folders' modes"
-    for name in ["dnorm", "lib/libdnorm.a", "lib/libdnorm.so.2"]:
+    for name in ["dnorm", "lib/libdnorm.a", "lib/libdnorm.so.3"]:
         linked = bytes_of(f"{port.tree}/{name}")
         for it in [made.folder, ROOT, os.path.dirname(os.path.dirname(os.path.realpath(shutil.which("rt") or "")))]:
             assert it.encode() not in linked, f"{it} is in {name}"
@@ -257,13 +235,9 @@ def uses_library(made: Made, prefix: str, root: str = "") -> None:
     told = run(["pkg-config", "--cflags", "--libs", "dnorm"], env=own)
     assert (told.err, told.status) == (b"", 0), f"pkg-config below {prefix}"
     words = [
-        "c++",
-        "-std=c++17",
-        "-o",
-        f"{made.folder}/uses",
-        f"{ROOT}/tests/library/library.cc",
+        "c++", "-std=c++17", "-o", f"{made.folder}/uses", f"{ROOT}/tests/library/library.cc",
         *told.out.decode().split(),
-    ]
+    ]  # fmt: skip
     assert run(words) == said(), f"{words}"
     text, *forms = CANONICAL[0]
     environment = {**os.environ, "LD_LIBRARY_PATH": os.path.dirname(found[0])}
@@ -274,10 +248,8 @@ def links(made: Made, folder: str) -> None:
     """Each link in the pages below a folder leads to a file there, and that links to sources name them."""
     found = run([sys.executable, f"{ROOT}/tools/pages.py", folder])
     assert found == said(), "pages with links that lead nowhere"
-    head = run(["git", "rev-parse", "HEAD"], cwd=made.one.folder).out.decode()[:12]
     for source in ["crates/dn_num/specs/Number.antt", "crates/dn_arc/specs/Meanings.antt"]:
-        named = f"(`{head}:{source}`)" in text_of(f"{folder}/docs/PROVED.md")
-        assert named, f"{folder}/docs/PROVED.md names {head}:{source}"
+        assert f"(`{source}`)" in text_of(f"{folder}/docs/PROVED.md"), f"{folder}/docs/PROVED.md names {source}"
 
 
 def test_in_empty_root(made: Made, two: Place) -> None:
@@ -325,41 +297,35 @@ def test_python_wheel(made: Made, two: Place) -> None:
 
 
 def test_python_binary(made: Made, port: Port) -> None:
-    """The wheel with the program of an architecture: that it has the files of the other wheel, the archive's
-    program and library, and that its RECORD lists them."""
-    with zipfile.ZipFile(f"{made.one.dist}/{made.wheel}") as wheel:
-        wanted = {it: wheel.read(it) for it in wheel.namelist()}
-    with zipfile.ZipFile(f"{made.one.dist}/{port.wheel}") as wheel:
-        infos = wheel.infolist()
-        found = {it.filename: wheel.read(it) for it in infos}
+    """The wheel with the program of an architecture: that it has the files of the other wheel, and the archive's
+    program and library."""
     stem = made.wheel.removesuffix("-py3-none-any.whl")
+    trees = []
+    for name in [made.wheel, port.wheel]:
+        to = f"{made.folder}/wheel-{name}"
+        python = python_with("setuptools", "wheel") or sys.executable
+        # This compares the sum of each file with RECORD.
+        assert run([python, "-m", "wheel", "unpack", "-d", to, f"{made.one.dist}/{name}"]).status == 0, name
+        below = f"{to}/{stem}"
+        trees.append({it: bytes_of(f"{below}/{it}") for it in all_below(below) if os.path.isfile(f"{below}/{it}")})
+    wanted, found = trees
     script, info = f"{stem}.data/scripts/dnorm", f"{stem}.dist-info"
-    assert found.pop(script) == bytes_of(f"{port.tree}/dnorm"), "its program"
-    same = found.pop("dnorm/libdnorm.so.2") == bytes_of(f"{port.tree}/lib/libdnorm.so.2")
-    assert same, "its library"
-    modes = {it.filename: it.external_attr >> 16 for it in infos}
-    assert {script: modes.pop(script)} | dict.fromkeys(modes.values(), "") == {
-        script: 0o100755,
-        0o100644: "",
-    }, "its modes"
-    assert {it.date_time for it in infos} == {time.gmtime(TIME - 1)[:6]}, "its times"
-    tags = re.findall("^Tag: (.*)$", found[f"{info}/WHEEL"].decode(), re.M)
-    assert sorted(tags) == [f"py3-none-{it}" for it in port.machine.platforms], "its tags"
+    added = {script: "dnorm", "dnorm/libdnorm.so.3": "lib/libdnorm.so.3"}
+    for it, place in added.items():
+        wanted[it] = bytes_of(f"{port.tree}/{place}")
+    tags = "".join(f"Tag: py3-none-{it}\n" for it in port.machine.platforms)
+    bound = wanted[f"{info}/WHEEL"].decode().replace("Purelib: true", "Purelib: false")
+    wanted[f"{info}/WHEEL"] = bound.replace("Tag: py3-none-any\n", tags).encode()
+    del wanted[f"{info}/RECORD"], found[f"{info}/RECORD"]
+    assert found == wanted, "its files"
     # manylinux2014 has the C library in version 2.17.
-    least = [int(it) for it in least_libc(f"{port.tree}/lib/libdnorm.so.2").split(".")]
+    least = [int(it) for it in least_libc(f"{port.tree}/lib/libdnorm.so.3").split(".")]
     assert least <= [2, 17] and all(it.startswith(("manylinux2014_", "musllinux_")) for it in port.machine.platforms)
-    is_bound = "Root-Is-Purelib: false\n" in found.pop(f"{info}/WHEEL").decode()
-    assert is_bound and wanted.pop(f"{info}/WHEEL"), "it is for one platform"
-    rows = [it.rsplit(",", 2) for it in found.pop(f"{info}/RECORD").decode().splitlines()]
-    assert sorted(it for it, _, _ in rows) == sorted([it.filename for it in infos]), "the names in RECORD"
-    sums = {name: digest for name, digest, _ in rows if digest}
-    found_sums = {
-        name: f"sha256={base64.urlsafe_b64encode(hashlib.sha256(data).digest()).decode().rstrip('=')}"
-        for name, data in found.items()
-    }
-    assert {it: sums.get(it) for it in found} == found_sums, "the sums in RECORD"
-    del wanted[f"{info}/RECORD"]
-    assert found == wanted, "its other files"
+    with zipfile.ZipFile(f"{made.one.dist}/{port.wheel}") as wheel:
+        infos = {it.filename: it for it in wheel.infolist()}
+    assert {it.date_time for it in infos.values()} == {time.gmtime(TIME - 1)[:6]}, "its times"
+    assert {infos.pop(script).external_attr >> 16} == {0o100755}, "the mode of its program"
+    assert {it.external_attr >> 16 & 0o111 for it in infos.values()} == {0}, "nothing else is run"
 
 
 def test_by_pip(made: Made, two: Place) -> None:
@@ -382,7 +348,7 @@ def test_by_pip(made: Made, two: Place) -> None:
         own = {"PATH": "/none"} | ({} if has_program else {"DNORM": made.tested})
         code = "import dnorm; print(dnorm.version(), dnorm.find_program(), dnorm.find_library() or '')"
         program = f"{place}/bin/dnorm" if has_program else made.tested
-        library = next(iter(glob.glob(f"{place}/lib/python*/site-packages/dnorm/libdnorm.so.2")), "")
+        library = next(iter(glob.glob(f"{place}/lib/python*/site-packages/dnorm/libdnorm.so.3")), "")
         assert bool(library) == has_program, f"the library of {wheel}: {library}"
         ran = run([f"{place}/bin/python", "-c", code], env=own)
         assert ran == said(f"{made.version} {program} {library}\n"), "the program and the library"
@@ -403,20 +369,34 @@ def runs_module(made: Made, where: str, tested: str) -> None:
     environment = {**os.environ, "PYTHONPATH": where, "DNORM": tested, "PYTHONDONTWRITEBYTECODE": "1"}
     found = run([sys.executable, "-m", "dnorm", "check", "roads.gr"], cwd=made.folder, env=environment)
     assert found == said("roads.gr: accepted sp\n", "1 accepted, 0 refused, 0 failed\n"), f"check by {where}"
-    words = [sys.executable, "-m", "dnorm", "conformance", "--rule", "first", tested]
+    words = [sys.executable, "-m", "dnorm.conformance", "--rule", "first", tested]
     found = run(words, cwd=made.folder, env=environment)
     assert found == said(FIRST), f"conformance by {where}"
 
 
+def package_of(made: Made, name: str, wanted: dict[str, str]) -> str:
+    """Unpacks a package that has these fields, and returns the folder. Its files have the sums that it says, and are
+    root's."""
+    path, to = f"{made.one.dist}/{name}", f"{made.folder}/package-{name}"
+    if not os.path.exists(to):
+        assert run(["dpkg-deb", "-R", path, to]) == said(), "dpkg-deb -R"
+        shutil.move(f"{to}/DEBIAN", f"{to}-control")
+    lines = run(["dpkg-deb", "-f", path]).out.decode().splitlines()
+    fields = dict(it.split(": ", 1) for it in lines if not it.startswith(" "))
+    wanted = {"Version": f"{made.version.replace('-', '~')}-1", **wanted}
+    assert {it: fields.get(it) for it in wanted} == wanted, f"fields of {name}"
+    assert run(["md5sum", "--quiet", "--strict", "-c", f"{to}-control/md5sums"], cwd=to) == said(), "md5sums"
+    rows = run(["dpkg-deb", "-c", path]).out.decode().splitlines()
+    assert {it.split()[1] for it in rows} == {"root/root"}, "its owners"
+    return to
+
+
 def test_python_package(made: Made, two: Place) -> None:
     """The package of the Python package: its paths, its fields, and that it has the wheel's files."""
-    path, to, control = (
-        f"{made.one.dist}/{made.python_package}",
-        f"{made.folder}/python",
-        f"{made.folder}/python-control",
-    )
-    assert run(["dpkg-deb", "-x", path, to]) == said(), "dpkg-deb -x"
-    assert run(["dpkg-deb", "-e", path, control]) == said(), "dpkg-deb -e"
+    version = f"{made.version.replace('-', '~')}-1"
+    fields = {"Package": "python3-dnorm", "Architecture": "all", "Source": "dnorm"}
+    fields |= {"Depends": f"dnorm (= {version}), python3 (>= 3.9)", "Recommends": f"libdnorm3 (= {version})"}
+    to = package_of(made, made.python_package, fields)
     modules = f"{to}/usr/lib/python3/dist-packages"
     with zipfile.ZipFile(f"{made.one.dist}/{made.wheel}") as wheel:
         texts = {it: wheel.read(it) for it in wheel.namelist() if not it.endswith("/RECORD")}
@@ -428,13 +408,7 @@ def test_python_package(made: Made, two: Place) -> None:
     assert found == wanted, "the files of python3-dnorm"
     assert {it: bytes_of(f"{modules}/{it}") for it in texts} == texts, "its modules"
     assert os.readlink(f"{to}/usr/share/doc/python3-dnorm") == "dnorm", "its documents"
-    version = f"{made.version.replace('-', '~')}-1"
-    fields = {"Package": "python3-dnorm", "Version": version, "Architecture": "all", "Source": "dnorm"}
-    fields |= {"Depends": f"dnorm (= {version}), python3 (>= 3.9)", "Recommends": f"libdnorm2 (= {version})"}
-    for name, value in fields.items():
-        assert run(["dpkg-deb", "-f", path, name]) == said(f"{value}\n"), f"its {name}"
-    assert run(["md5sum", "--quiet", "--strict", "-c", f"{control}/md5sums"], cwd=to) == said(), "md5sums"
-    scripts = {it: os.stat(f"{control}/{it}").st_mode & 0o777 for it in ["postinst", "prerm"]}
+    scripts = {it: os.stat(f"{to}-control/{it}").st_mode & 0o777 for it in ["postinst", "prerm"]}
     assert scripts == dict.fromkeys(scripts, 0o755), "its scripts"
     packaged = f"{unpacked(made, made.ports[0])}/usr/bin/dnorm"
     runs_module(made, modules, packaged)
@@ -444,110 +418,78 @@ def test_python_package(made: Made, two: Place) -> None:
 
 
 def unpacked(made: Made, port: Port) -> str:
-    """Unpacks the package of an architecture into a folder, if that was not done before, and returns the folder."""
-    to = f"{made.folder}/package-{port.machine.name}"
-    if not os.path.exists(to):
-        assert run(["dpkg-deb", "-x", f"{made.one.dist}/{port.package}", to]) == said()
-    return to
-
-
-def test_shared_files(made: Made, two: Place) -> None:
-    """The packages of all architectures have the same files but for the program, and the one for this machine runs."""
-    told = []
-    for port in made.ports:
-        control = f"{made.folder}/sums-{port.package}"
-        assert run(["dpkg-deb", "-e", f"{made.one.dist}/{port.package}", control]) == said()
-        told.append({*text_of(f"{control}/md5sums").splitlines()})
-    own = {it.split()[1] for one in told for it in one ^ told[0]}
-    assert own == ({"usr/bin/dnorm"} if len(told) > 1 else set())
-    to = unpacked(made, made.ports[0])
-    parts(made, f"{to}/usr/bin/canon-in-parts")
-    links(made, f"{to}/usr/share/doc/dnorm")
+    """Unpacks the package of the program for an architecture."""
+    fields = {"Package": "dnorm", "Architecture": port.machine.debian, "Maintainer": f"{WHO['NAME']} <{WHO['EMAIL']}>"}
+    # For python3-dnorm, also where it is for another architecture than the machine's.
+    fields |= {"Multi-Arch": "foreign", "Suggests": "python3 (>= 3.9), libdnorm-dev"}
+    return package_of(made, port.package, fields)
 
 
 def test_package(made: Made, port: Port) -> None:
-    """The package of an architecture: its paths, its fields, and the owners of its files."""
-    path, to = f"{made.one.dist}/{port.package}", unpacked(made, port)
-    wanted = {f"usr/{MOVED.get(it, it)}": mode for mode, _, it in listed() if not it.startswith(OF_LIBRARY)}
-    wanted |= {f"usr/{it}": 0o644 for it in ADDED}
-    assert files_of(all_below(to)) == wanted, "the package's files"
+    """The package of an architecture: its paths and its program. It depends on nothing, and all architectures have the
+    same files but for the program."""
+    to, sums = unpacked(made, port), []
+    wanted = {f"usr/{in_package(it)}": mode for mode, _, it in listed() if not it.startswith(OF_LIBRARY)}
+    assert files_of(all_below(to)) == wanted | {f"usr/{it}": 0o644 for it in ADDED}, "the package's files"
     same = bytes_of(f"{to}/usr/bin/dnorm") == bytes_of(f"{port.tree}/dnorm")
     assert same, "the package has the archive's program"
-    lines = run(["dpkg-deb", "-c", path]).out.decode().splitlines()
-    assert {it.split()[1] for it in lines} == {"root/root"}, "its owners"
-    fields = {
-        "Package": "dnorm",
-        "Version": f"{made.version.replace('-', '~')}-1",
-        "Architecture": port.machine.debian,
-        # For python3-dnorm, also where it is for another architecture than the machine's.
-        "Multi-Arch": "foreign",
-        "Maintainer": f"{WHO['NAME']} <{WHO['EMAIL']}>",
-        "Suggests": "python3 (>= 3.9), parallel, libdnorm-dev",
-    }
-    for name, value in fields.items():
-        assert run(["dpkg-deb", "-f", path, name]) == said(f"{value}\n"), f"its {name}"
-    told = run(["dpkg-deb", "-f", path]).out.decode()
-    assert "Depends" not in told, f"it depends on nothing: {told}"
-    control = f"{made.folder}/control-{port.package}"
-    assert run(["dpkg-deb", "-e", path, control]) == said(), "dpkg-deb -e"
-    assert run(["md5sum", "--quiet", "--strict", "-c", f"{control}/md5sums"], cwd=to) == said(), "md5sums"
+    assert "Depends" not in text_of(f"{to}-control/control"), "it depends on nothing"
+    for it in [port, made.ports[0]]:
+        sums.append({*text_of(f"{unpacked(made, it)}-control/md5sums").splitlines()})
+    assert {it.split()[1] for it in sums[0] ^ sums[1]} <= {"usr/bin/dnorm"}
 
 
-def library_below(made: Made, port: Port) -> str:
-    """Unpacks both packages of the library into one root, if that was not done before, and returns the root."""
-    to = f"{made.folder}/library-{port.machine.name}"
-    for it in [] if os.path.exists(to) else [port.shared, port.headers]:
-        assert run(["dpkg-deb", "-x", f"{made.one.dist}/{it}", to]) == said(), it
-    return to
-
-
-def test_library_packages(made: Made, two: Place) -> None:
-    """Programs are built with the packages of the library for this machine, by pkg-config and by CMake."""
+def test_runs_of_packages(made: Made, two: Place) -> None:
+    """What the packages for this machine have runs, and programs are built with the library's, by pkg-config and by
+    CMake."""
+    to = unpacked(made, made.ports[0])
+    parts(made, f"{to}/usr/bin/canon-in-parts")
+    links(made, f"{to}/usr/share/doc/dnorm")
     to = library_below(made, made.ports[0])
     uses_library(made, f"{to}/usr", to)
     by_cmake(f"{made.folder}/by cmake", f"{to}/usr")
 
 
+def library_below(made: Made, port: Port) -> str:
+    """Unpacks both packages of the library into one root, if that was not done before, and returns the root."""
+    to, version = f"{made.folder}/library-{port.machine.name}", f"{made.version.replace('-', '~')}-1"
+    fields = {"Source": "dnorm", "Multi-Arch": "same", "Architecture": port.machine.debian}
+    least, is_new = f"libc6 (>= {least_libc(f'{port.tree}/lib/libdnorm.so.3')})", not os.path.exists(to)
+    for name, own in {
+        port.shared: {"Package": "libdnorm3", "Depends": least, "Section": "libs"},
+        port.headers: {"Package": "libdnorm-dev", "Depends": f"libdnorm3 (= {version})", "Section": "libdevel"},
+    }.items():
+        package = package_of(made, name, {**fields, **own})
+        if is_new:
+            shutil.copytree(package, to, symlinks=True, dirs_exist_ok=True)
+    return to
+
+
 def test_packages_of_library(made: Made, port: Port) -> None:
     """The packages of the library for an architecture: their paths and fields."""
-    to, version = library_below(made, port), f"{made.version.replace('-', '~')}-1"
-    folder = f"lib/{port.machine.name}-linux-gnu"
+    folder, to = f"lib/{port.machine.name}-linux-gnu", library_below(made, port)
     places = [it.replace("lib/", f"{folder}/", 1) for _, _, it in listed() if it.startswith(OF_LIBRARY)]
-    wanted = {f"usr/{it}{'.gz' * ('/man3/' in it)}": 0o644 for it in [*places, f"{folder}/libdnorm.so"]}
+    wanted = {f"usr/{it}{'.gz' * ('/man3/' in it)}" for it in [*places, f"{folder}/libdnorm.so"]}
     own_documents = ["LIBRARY.md", *(f"examples/{it}" for it in os.listdir(f"{ROOT}/c/examples"))]
-    wanted |= {f"usr/share/doc/libdnorm-dev/{it}": 0o644 for it in own_documents}
-    for it in ["libdnorm2", "libdnorm-dev"]:
+    wanted |= {f"usr/share/doc/libdnorm-dev/{it}" for it in own_documents}
+    for it in ["libdnorm3", "libdnorm-dev"]:
         added = [f"doc/{it}/{name}" for name in ["changelog.Debian.gz", "changelog.gz", "copyright", "THIRD-PARTY"]]
-        added.append(f"lintian/overrides/{it}")
-        wanted |= {f"usr/share/{name}": 0o644 for name in added}
-    least = least_libc(f"{port.tree}/lib/libdnorm.so.2")
-    fields = {
-        port.shared: {"Package": "libdnorm2", "Depends": f"libc6 (>= {least})", "Section": "libs"},
-        port.headers: {"Package": "libdnorm-dev", "Depends": f"libdnorm2 (= {version})", "Section": "libdevel"},
-    }
-    common = {"Version": version, "Source": "dnorm", "Multi-Arch": "same", "Architecture": port.machine.debian}
-    for name, own in fields.items():
-        path, control = f"{made.one.dist}/{name}", f"{made.folder}/control-{name}"
-        assert run(["dpkg-deb", "-e", path, control]) == said(), f"dpkg-deb -e {name}"
-        sums = run(["md5sum", "--quiet", "--strict", "-c", f"{control}/md5sums"], cwd=to)
-        assert sums == said(), f"md5sums of {name}"
-        for field, value in {**own, **common}.items():
-            assert run(["dpkg-deb", "-f", path, field]) == said(f"{value}\n"), f"{field} of {name}"
+        wanted |= {f"usr/share/{name}" for name in [*added, f"lintian/overrides/{it}"]}
     names = {
-        "shlibs": f"libdnorm 2 libdnorm2 (>= {version.removesuffix('-1')})",
+        "shlibs": f"libdnorm 3 libdnorm3 (>= {made.version.replace('-', '~')})",
         "triggers": "activate-noawait ldconfig",
     }
     for it, line in names.items():
-        assert text_of(f"{made.folder}/control-{port.shared}/{it}").splitlines()[-1] == line, f"{it} of libdnorm2"
+        assert text_of(f"{made.folder}/package-{port.shared}-control/{it}").splitlines()[-1] == line, it
     found = {os.path.relpath(f"{at}/{it}", to) for at, _, files in os.walk(to, followlinks=True) for it in files}
-    assert found == set(wanted), "the files of both packages"
+    assert found == wanted, "the files of both packages"
     # Code has brackets, too.
     page = re.sub(r"^```.*?^```", "", text_of(f"{to}/usr/share/doc/libdnorm-dev/LIBRARY.md"), flags=re.M | re.S)
     local = [it for it in re.findall(r"\]\(([^#)][^)]*)\)", page) if "://" not in it]
     assert sorted(local) == sorted(own_documents[1:]), "links of the page on the library"
     is_whole = page.startswith("# The library for C, C++ and Rust\n") and "## What a caller" in page
     assert is_whole, "the page on the library is whole"
-    for name in ["libdnorm.a", "libdnorm.so.2"]:
+    for name in ["libdnorm.a", "libdnorm.so.3"]:
         same = bytes_of(f"{to}/usr/{folder}/{name}") == bytes_of(f"{port.tree}/lib/{name}")
         assert same, f"the packages have the archive's {name}"
 
@@ -568,9 +510,10 @@ def parts(made: Made, script: str) -> None:
 
 
 def install(folder: str, *words: str, below: str = "", path: str = "") -> Answer:
-    """Runs ./install of this folder, with DESTDIR if it is given, and with a further folder on the path."""
-    own = {"DESTDIR": below, "PATH": f"{os.environ['PATH']}:{path or '/none'}"}
-    return run([f"{folder}/install", *words], cwd="/", env={**os.environ, **own})
+    """Runs ./install of this folder, with the umask of a single user, with DESTDIR if it is given, and with this path
+    of commands."""
+    own = {**os.environ, "DESTDIR": below, "PATH": path or os.environ["PATH"]}
+    return run(["sh", "-c", 'umask 077; exec "$@"', "sh", f"{folder}/install", *words], cwd="/", env=own)
 
 
 def test_fails(scratch: Made) -> None:
@@ -608,58 +551,45 @@ def compiles(made: Made, modules: str) -> None:
     assert glob.glob(f"{glob.escape(modules)}/dnorm/__pycache__/*.pyc") != [], "compiled modules"
 
 
-def test_installs(made: Made, two: Place) -> None:
+def by_busybox(made: Made) -> str:
+    """Returns a path on which there are only bash and the commands of busybox, of which Debian's has no `install`."""
+    need("bash", "busybox")
+    os.mkdir(f"{made.folder}/busybox")
+    names = {*run(["busybox", "--list"]).out.decode().split()} - {"bash", "busybox", "install"}
+    for it in ["bash", *names]:
+        os.symlink(shutil.which("bash" if it == "bash" else "busybox") or "", f"{made.folder}/busybox/{it}")
+    return f"{made.folder}/busybox"
+
+
+@pytest.mark.parametrize("what", ["archive", "repository", "archive, by busybox"])
+def test_installs(made: Made, two: Place, what: str) -> None:
     """What ./install installs from the archive and from the repository, and uninstalls again."""
-    for folder, linked in [(made.tree, f"{made.tree}/dnorm"), (made.one.folder, made.tested)]:
-        prefix = f"{made.folder}/a prefix"
-        os.makedirs(f"{prefix}/share/man")
-        write(f"{prefix}/share/other", "")
-        before = all_below(prefix)
-        for _ in range(2):
-            found = install(folder, prefix)
-            told, quoted = found.out.decode().splitlines(), prefix.replace(" ", "\\ ")
-            paths = sorted(f"{prefix}/{it}" for it in all_listed())
-            assert sorted(told[:-4]) == paths, "files that are printed"
-            assert told[-3] == f"export PATH={quoted}/bin:$PATH", "the path is printed"
-            assert told[-1] == f"fpath=({quoted}/share/zsh/site-functions $fpath)", "fpath is printed"
-            assert (found.err, found.status) == (b"", 0), "./install"
-        found = install(folder, prefix, path=f"{prefix}/bin")
-        assert len(found.out.splitlines()) == len(all_listed()) + 2, "the path is not printed"
-        wanted = {it: mode for mode, _, it in listed()} | dict.fromkeys(links_listed(), 0o644)
-        wanted |= {"share/dnorm/installed.txt": 0o644, "share/other": before["share/other"]}
-        assert files_of(all_below(prefix)) == wanted, "what is installed"
-        assert bytes_of(f"{prefix}/bin/dnorm") == bytes_of(linked), "the program"
+    folder, linked = (made.one.folder, made.tested) if what == "repository" else (made.tree, f"{made.tree}/dnorm")
+    prefix, path = f"{made.folder}/a prefix", by_busybox(made) if "busybox" in what else os.environ["PATH"]
+    os.makedirs(f"{prefix}/share/man")
+    write(f"{prefix}/share/other", "")
+    before, quoted = all_below(prefix), prefix.replace(" ", "\\ ")
+    for _ in range(2):
+        found = install(folder, prefix, path=path)
+        told = found.out.decode().splitlines()
+        assert sorted(told[:-4]) == sorted(f"{prefix}/{it}" for it in all_listed()), "files that are printed"
+        assert told[-3] == f"export PATH={quoted}/bin:$PATH", "the path is printed"
+        assert told[-1] == f"fpath=({quoted}/share/zsh/site-functions $fpath)", "fpath is printed"
+        assert (found.err, found.status) == (b"", 0), "./install"
+    found = install(folder, prefix, path=f"{path}:{prefix}/bin")
+    assert len(found.out.splitlines()) == len(all_listed()) + 2, "the path is not printed"
+    below, wanted = all_below(prefix), {it: mode for mode, _, it in listed()} | dict.fromkeys(links_listed(), 0o644)
+    wanted |= {"share/dnorm/installed.txt": 0o644, "share/other": before["share/other"]}
+    assert files_of(below) == wanted, "what is installed"
+    assert {mode for it, mode in below.items() if os.path.isdir(f"{prefix}/{it}")} == {0o755}, "its folders' modes"
+    assert bytes_of(f"{prefix}/bin/dnorm") == bytes_of(linked), "the program"
+    if "busybox" not in what:
         by_cmake(f"{made.folder}/by cmake", prefix)
         parts(made, f"{prefix}/bin/canon-in-parts")
         compiles(made, f"{prefix}/share/dnorm/python")
-        assert install(folder, "--uninstall", prefix) == said(), "./install --uninstall"
-        assert all_below(prefix) == before, "what is left"
-        shutil.rmtree(prefix)
-
-
-def test_installs_by_busybox(made: Made, two: Place) -> None:
-    """What ./install of the archive installs and uninstalls where there are only bash and the commands of busybox, of
-    which Debian's has no `install`, and where the umask is that of a single user."""
-    need("bash", "busybox")
-    commands, prefix = f"{made.folder}/busybox", f"{made.folder}/by busybox"
-    os.mkdir(commands)
-    for it in run(["busybox", "--list"]).out.decode().split():
-        if it not in ("bash", "busybox", "install"):
-            os.symlink(shutil.which("busybox") or "", f"{commands}/{it}")
-    os.symlink(shutil.which("bash") or "", f"{commands}/bash")
-    own = {"PATH": commands, "HOME": made.folder}
-    for _ in range(2):
-        found = run(["sh", "-c", 'umask 077; exec "$@"', "sh", f"{made.tree}/install", prefix], cwd="/", env=own)
-        assert (found.err, found.status) == (b"", 0), "./install by busybox"
-        told = found.out.decode().splitlines()
-        assert sorted(told[:-4]) == sorted(f"{prefix}/{it}" for it in all_listed()), "files that are printed"
-        assert told[-3] == f"export PATH={prefix.replace(' ', chr(92) + ' ')}/bin:$PATH", "the path is printed"
-    below = all_below(prefix)
-    wanted = {it: mode for mode, _, it in listed()} | dict.fromkeys(links_listed(), 0o644)
-    assert files_of(below) == wanted | {"share/dnorm/installed.txt": 0o644}, "what is installed by busybox"
-    assert {mode for it, mode in below.items() if os.path.isdir(f"{prefix}/{it}")} == {0o755}, "its folders' modes"
-    assert run([f"{made.tree}/install", "--uninstall", prefix], cwd="/", env=own) == said(), "--uninstall by busybox"
-    assert not os.path.exists(prefix), "nothing is left by busybox"
+    assert install(folder, "--uninstall", prefix, path=path) == said(), "./install --uninstall"
+    assert all_below(prefix) == before, "what is left"
+    shutil.rmtree(prefix)
 
 
 def test_stages(scratch: Made) -> None:

@@ -27,21 +27,18 @@ from shared import LIMIT, ROOT, Answer, bytes_of, own_folder, run, said, text_of
 pytestmark = pytest.mark.whole
 # What a scratch repository has of this one.
 FILES = [
-    "dnorm",
-    "install",
-    "kit.txt",
-    *(f"c/dnorm{it}" for it in [".h", "_codes.h", "_tools.h", ".hpp", ".pc", ".map"]),
-]
-FILES += ["c/dnorm-config.cmake", "c/dnorm-config-version.cmake", "crates/dn_command/src/help.rt"]
+    "dnorm", "install", "kit.txt", *(f"c/dnorm{it}" for it in [".h", "_codes.h", "_tools.h", ".hpp", ".pc", ".map"]),
+]  # fmt: skip
+FILES += ["c/free.c", "c/dnorm-config.cmake", "c/dnorm-config-version.cmake", "crates/dn_command/src/help.rt"]
 TOOLS = ["find-program.sh", "program", "source-sum", "kit.py", "prover.py", "build", "c-library"]
 FILES += [f"tools/{it}" for it in TOOLS]
 FILES += ["tools/link-program", "tools/released", "tools/hidden-object"]
 OUT = "crates/dnorm/out"
 LIBRARY = "crates/dn_c/out/library"
-LIBRARIES = ["libdnorm.a", "libdnorm.so.2"]
+LIBRARIES = ["libdnorm.a", "libdnorm.so.3"]
 # What the kit has made here.
 MADE = [f"{OUT}/rlib/dnorm.o", *(f"{LIBRARY}/{it}" for it in ["dn_c.a", *LIBRARIES])]
-INSTALLED = ["755 dnorm bin/dnorm", "644 include/dnorm.h include/dnorm.h", "644 lib/libdnorm.a lib/libdnorm.a"]
+INSTALLED = ["755 bin dnorm", "644 include include/dnorm.h", "644 lib lib/libdnorm.a"]
 # A path of commands without `rt`.
 WITHOUT_RT = "/usr/bin:/bin"
 # The commands that ./dnorm calls to find the released program.
@@ -71,10 +68,10 @@ class Clone:
             "crates/dn_c/src/lib.rt": "// a source\n",
             "share/installed.txt": "".join(f"{it}\n" for it in INSTALLED),
             "docs/costs.txt": "",
-            "tools/definitions": "#!/bin/sh\n",
+            "tools/generate": "#!/bin/sh\n",
         }.items():
             self.write(name, text)
-        os.chmod(f"{folder}/tools/definitions", 0o755)
+        os.chmod(f"{folder}/tools/generate", 0o755)
         os.makedirs(f"{self.released}/x86_64")
         shutil.copy(tested, f"{self.released}/x86_64/dnorm")
         for it in LIBRARIES:
@@ -142,7 +139,9 @@ def test_takes(clone: Clone) -> None:
     clone.write("tools/source-sum", "exit 1\n")
     runs("which does not sum again", clone)
     clone.write("tools/source-sum", kept)
-    assert clone.run("tools/program") == said(f"{clone.released}/x86_64/dnorm\n"), "tools/program"
+    named, own = said(f"{clone.released}/x86_64/dnorm\n"), {**os.environ, "PATH": WITHOUT_RT}
+    assert clone.run("tools/program") == named, "tools/program"
+    assert run(["tools/program"], cwd=clone.folder, env=own) == named, "tools/program from the clone"
     clone.write(source, text)
     runs("a source with a later time", clone)
     for name, other in [
@@ -350,19 +349,13 @@ DAMAGES: dict[str, tuple[Callable[[Clone], None], str]] = {
     "a sum": (lambda clone: flip(f"{clone.released}/SHA256SUMS"), CHANGED),
     "no sums": (lambda clone: os.remove(f"{clone.released}/SHA256SUMS"), CHANGED),
     "a script with its sum": (script, "dnorm: {}/released/x86_64/dnorm is no program: tools/build builds one\n"),
-    "a program that may not run": (
-        lambda clone: os.chmod(f"{clone.folder}/{AT}", 0o644),
-        "dnorm: {}/released/x86_64/dnorm is not executable: chmod +x makes it so\n",
-    ),
-    "no program": (
-        lambda clone: os.remove(f"{clone.folder}/{AT}"),
-        NO_RT.replace("has the proved program 1.0", "lacks its program for x86_64: git restores it"),
-    ),
-    "no buildinfo": (
-        lambda clone: os.remove(f"{clone.released}/buildinfo"),
-        NO_RT.replace("; released/ has the proved program 1.0", ""),
-    ),
-}
+    "a program that may not run": (lambda clone: os.chmod(f"{clone.folder}/{AT}", 0o644),
+                                   "dnorm: {}/released/x86_64/dnorm is not executable: chmod +x makes it so\n"),
+    "no program": (lambda clone: os.remove(f"{clone.folder}/{AT}"), NO_RT.replace(
+                   "has the proved program 1.0", "lacks its program for x86_64: git restores it")),
+    "no buildinfo": (lambda clone: os.remove(f"{clone.released}/buildinfo"),
+                     NO_RT.replace("; released/ has the proved program 1.0", "")),
+}  # fmt: skip
 # After a call that has checked all, only the program itself is looked at.
 WAYS = [(it, is_marked) for it in DAMAGES for is_marked in [False, True] if not (is_marked and it.startswith("no "))]
 
@@ -492,11 +485,8 @@ esac
 echo '1 passed, 0 failed'
 """
 ENDED = [
-    ("lint", signal.SIGTERM, ""),
-    ("rt", signal.SIGINT, ""),
-    ("build", signal.SIGHUP, ""),
-    ("run", signal.SIGTERM, ""),
-]
+    ("lint", signal.SIGTERM, ""), ("rt", signal.SIGINT, ""), ("build", signal.SIGHUP, ""), ("run", signal.SIGTERM, ""),
+]  # fmt: skip
 
 
 @pytest.mark.parametrize("stays, number, ignored", [*ENDED, ("c-library", signal.SIGTERM, "yes")])

@@ -1,4 +1,4 @@
-// measure REPS INPUT OUTPUT NAME=COMMAND..   runs each command REPS times, in turn, with its
+// rounds REPS INPUT OUTPUT NAME=COMMAND..   runs each command REPS times, in turn, with its
 // standard input from INPUT and its standard output to OUTPUT. Prints one line a run:
 //   NAME TAB wall-ms TAB user-ms TAB sys-ms TAB peak-KiB TAB status
 // Commands run through `sh -c`. Peak is that of the largest single process, not the sum over a
@@ -33,10 +33,7 @@ fn main() {
             let wall = start.elapsed().as_secs_f64() * 1e3;
             let user = usage[0] as f64 * 1e3 + usage[1] as f64 / 1e3;
             let sys = usage[2] as f64 * 1e3 + usage[3] as f64 / 1e3;
-            println!(
-                "{name}\t{wall:.2}\t{user:.2}\t{sys:.2}\t{}\t{status}",
-                usage[4]
-            );
+            println!("{name}\t{wall:.2}\t{user:.2}\t{sys:.2}\t{}\t{status}", usage[4]);
         }
     }
 }

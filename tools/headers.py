@@ -1,31 +1,19 @@
-#!/usr/bin/env python3
-"""Makes the manual pages of the library for C, share/man/man3/dnorm.h.3 and dnorm_tools.h.3, from what these headers
-declare and say.
+"""The manual pages of the library for C, made of what its headers declare and say."""
 
-    tools/c-page [--write]
-
-Without `--write` it compares the pages with what it would write, and the status is 1 if one differs."""
-
-import os
 import re
-import sys
 
-sys.path.append(os.path.join(os.path.dirname(os.path.realpath(__file__)), "../tests"))
-# The tests' folder must be on the path before this import.
-from shared import ROOT, text_of, write  # noqa: E402
+from pages import page_text
 
 # The headers, with what each is for.
 HEADERS = {"dnorm.h": "reader of DIMACS network instances", "dnorm_tools.h": "what programs need around dnorm.h"}
-FOLDER = f"{ROOT}/share/man/man3"
-VERSION = re.compile(r'\bVERSION: &str = "(.+)";$', re.M)
 COMMENT = re.compile(r"/\* (.*?) ?\*/\n", re.S)
 # A function that is declared, or an inline one, with its comment. Those behind macros are no names of their own.
 FUNCTION = re.compile(
     r"/\* ((?:(?!\*/).)*) \*/\n(?:DNORM_INLINE )?((?:const )?\w+ \*?(dnorm_(?!inline_)\w+)\([^;{]*\))(?:;| \{)", re.S
 )
 TYPE = re.compile(r"/\* ((?:(?!\*/).)*) \*/\n((?:typedef struct|enum) .*?\}(?: \w+)?;\n)", re.S)
-HEAD = """.\\" The manual page of {header}, by tools/c-page.
-.TH {title} 3 "" "dnorm {version}" "Library Functions Manual"
+HEAD = """.\\" The manual page of {header}, by tools/generate.
+.TH {title} 3 "" "{version}" "Library Functions Manual"
 .SH NAME
 {header}, {names} \\- {purpose}
 .SH LIBRARY
@@ -84,16 +72,15 @@ def introduction(comment: str) -> str:
     return made
 
 
-def page(header: str) -> str:
+def page(header: str, version: str) -> str:
     """Returns the page of a header."""
-    text = text_of(f"{ROOT}/c/{header}")
-    found = VERSION.search(text_of(f"{ROOT}/crates/dn_command/src/help.rt"))
+    text = page_text(f"c/{header}")
     functions, types = FUNCTION.findall(text), TYPE.findall(text)
     head = COMMENT.search(text)
-    assert head and found
+    assert head
     names = ", ".join(name for _, _, name in functions)
     facts = {"title": header.upper(), "header": header, "purpose": HEADERS[header]}
-    made = HEAD.format(version=escaped(found[1]), names=names, **facts)
+    made = HEAD.format(version=escaped(version), names=names, **facts)
     for _, declared, _ in functions:
         made += f".BI \"{escaped(' '.join(declared.split()))};\"\n"
     made += f".fi\n.SH DESCRIPTION\n{introduction(head[1])}.SH FUNCTIONS\n"
@@ -103,22 +90,3 @@ def page(header: str) -> str:
     for comment, declared in types:
         made += f".PP\n{described(comment)}.PP\n.RS 4\n{code(declared.rstrip())}.RE\n"
     return made + FOOT.format(others=" ".join(it for it in HEADERS if it != header))
-
-
-def main() -> int:
-    if sys.argv[1:] not in ([], ["--write"]):
-        sys.exit(__doc__)
-    status = 0
-    os.makedirs(FOLDER, exist_ok=True)
-    for header in HEADERS:
-        path, made = f"{FOLDER}/{header}.3", page(header)
-        if sys.argv[1:]:
-            write(path, made)
-        elif not os.path.exists(path) or text_of(path) != made:
-            print(f"{os.path.relpath(path, ROOT)} is not of c/{header}: tools/c-page --write makes it anew")
-            status = 1
-    return status
-
-
-if __name__ == "__main__":
-    sys.exit(main())
