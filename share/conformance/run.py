@@ -718,7 +718,7 @@ def tried(rules: list[Case], asked: argparse.Namespace) -> int:
         found = [*run_all(runner, chosen, asked.jobs)]
     if asked.shape:
         printed(SHAPES[asked.shape](found, runner.why))
-    elif runner.status != USAGE:
+    else:
         printed(by_rule(rules, found, asked.all))
     printed([f"run.py: {runner.why}"] if runner.why else [], bool(asked.shape) or runner.status != FAILED)
     if runner.status == USAGE:
