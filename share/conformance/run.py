@@ -28,27 +28,27 @@ Levels, each of which includes the ones before it:
     canon      'canon', in both forms; the default
     compare    'compare', and 'check' with a companion
 
-Standard input is a file, a pipe, or a pipe in pieces, by the id of the case: --pieces gives the sizes of these. With
---batch, COMMAND runs once for each job, and answers each line of its standard input in a line: README.md describes
-these.
+Standard input is a file, a pipe, or a pipe in pieces of 1, 7 or 4096 bytes, by the id of the case. With --batch,
+COMMAND runs once for each job, and answers each line of its standard input in a line: README.md describes these.
 
 Further lines are ignored where 'check' prints them: on standard output after the expected ones, and on standard error
 before the refusal. In place of the './dnorm' of a clone, the program that it runs is called. On a terminal, standard
 error shows the progress.
 
-The status is 0 if all cases pass, 1 if one fails, and 3 if the command line is refused, or if COMMAND ends with status
-125, which says that it cannot work. A call that takes more
-processor time than the limit, or six times as long by the clock, or prints more than 1 MB, is ended and fails."""
+The status is 0 if all cases pass, 1 if one fails, and 3 if the command line is refused, or if COMMAND does not start or
+ends with status 125, which says that it cannot work. SIGINT and SIGTERM end the calls; the report has the cases that
+were tried, and the status is 128 and the number of the signal. A call that takes longer than the limit or prints more
+than 1 MB is ended and fails; after ten of them no further case is tried."""
 
 from __future__ import annotations
 
 import argparse
+import contextlib
 import fcntl
 import itertools
 import json
 import os
 import re
-import select
 import selectors
 import shutil
 import signal
@@ -62,7 +62,7 @@ import time
 import xml.etree.ElementTree
 import zlib
 from collections.abc import Iterable, Iterator, Sequence
-from concurrent.futures import ThreadPoolExecutor
+from concurrent.futures import ThreadPoolExecutor, wait
 from typing import Any, NamedTuple, NoReturn
 
 CASES = os.path.join(os.path.dirname(os.path.abspath(__file__)), "cases.json")
@@ -73,15 +73,11 @@ FAILED, USAGE = 1, 3
 MOST, PATIENCE, SHOWN = 1_000_000, 10, 5
 # The status of a reader or an adapter that cannot work, say because a program is missing.
 BROKEN = 125
-# How often the limit of processor time a call may take by the clock.
-CLOCK = 6
-# The default sizes of pieces, how many pieces a text has at most, and the seconds between two looks at whether a piece
-# has been read.
-PIECES, MANY, PAUSE = [1, 7, 4096], 200, 0.0002
-# The seconds by the clock for which the time of an answer in a batch is not measured.
-AT_ONCE = 0.05
-# The seconds between two drawings of the progress.
-DRAWING = 0.1
+# How a text arrives: by a file, or by a pipe in pieces of a size, one of which is that of the whole text; and how many
+# pieces a text has at most.
+WAYS, MANY = [None, sys.maxsize, 1, 7, 4096], 200
+# The seconds between two looks at whether a piece has been read, and at all else: signals, the time and the progress.
+PAUSE, LOOK = 0.0002, 0.2
 
 # The words after `p` of each kind.
 KINDS = {"min": "min", "max": "max", "sp": "sp", "ss": "aux sp ss", "p2p": "aux sp p2p", "co": "aux sp co"}
@@ -94,19 +90,17 @@ Case = dict[str, Any]
 
 
 class Answer(NamedTuple):
-    """What a call printed, and its status: below 0 for the signal that ended it, None if this script ended it."""
+    """What a call printed, and its status: below 0 for the signal that ended it, None if this script ended it. In a
+    batch, `aside` is what the reader printed on standard error while it answered."""
 
     out: bytes
     err: bytes
     status: int | None
-
-
-class Stuck(Exception):
-    """Too many calls exceeded the limit."""
+    aside: bytes = b""
 
 
 class Unusable(Exception):
-    """The reader cannot be started."""
+    """The reader does not start, or no further case is tried."""
 
 
 class Parser(argparse.ArgumentParser):
@@ -114,14 +108,6 @@ class Parser(argparse.ArgumentParser):
 
     def error(self, message: str) -> NoReturn:
         self.exit(USAGE, f"run.py: {message}\nrun.py --help describes the command line\n")
-
-
-def sizes(word: str) -> list[int]:
-    """Returns sizes of pieces."""
-    found = [int(it) for it in word.split(",")]
-    if min(found) < 1:
-        raise ValueError
-    return found
 
 
 def positive(word: str) -> float:
@@ -158,15 +144,15 @@ def parser_of(rules: Sequence[str]) -> Parser:
     add("--case", action="append", metavar="ID", help="only this case; repeatable")
     add("--accepted", action="store_true", help="only texts that are accepted")
     add("--refused", type=status, default=2, metavar="STATUS", help="the status of a refusal, by default 2; or any")
-    add("--limit", type=positive, default=10, metavar="SECONDS", help="the processor time of a call, by default 10")
-    add("--memory", type=int, metavar="MB", help="the memory of a call")
-    add("--pieces", type=sizes, default=PIECES, metavar="N,..", help="the bytes of a piece of a pipe; default 1,7,4096")
+    add("--limit", type=positive, default=30, metavar="SECONDS", help="the time of a call, by default 30")
+    add("--memory", type=int, metavar="MB", help="the address space of a call")
     add("--jobs", type=int, default=os.cpu_count() or 1, metavar="N", help="calls at the same time")
     add("--batch", action="store_true", help="COMMAND reads the calls from standard input")
     add("--expect", metavar="FILE", help="the ids of cases that are known to fail, one in a line")
+    add("--expect-write", metavar="FILE", help="make such a file of the cases that fail; the status is then 0")
     add("--all", action="store_true", help=f"show all failures of a rule, and not only {SHOWN}")
     shapes = parser.add_mutually_exclusive_group()
-    for name, about in {"tap": "in the Test Anything Protocol", "junit": "as XML for JUnit", "json": "as JSON"}.items():
+    for name, about in {"junit": "as XML for JUnit", "json": "as JSON"}.items():
         shapes.add_argument(f"--{name}", dest="shape", action="store_const", const=name, help=f"print results {about}")
     add("--write", metavar="FOLDER", help="make files of the texts, and run nothing")
     add("--version", action="store_true", help="print the version of the cases")
@@ -196,9 +182,11 @@ def parsed(words: Sequence[str] | None, rules: Sequence[Case]) -> argparse.Names
             found.expected = expected(found.expect)
         except (OSError, UnicodeError) as error:
             parser.error(f"{found.expect}: {getattr(error, 'strerror', None) or error}")
-    for name, line in [*[(it, 0) for it in found.case or []], *found.expected.items()]:
+    for name in found.case or []:
         if name not in ids:
-            parser.error(f"{f'{found.expect}:{line}: ' if line else ''}no case has the id {name!r}")
+            parser.error(f"no case has the id {name!r}")
+    unknown = [(line, name) for name, line in found.expected.items() if name not in ids]
+    printed([f"run.py: {found.expect}:{line}: warning: no case has the id {name!r}" for line, name in unknown], True)
     return found
 
 
@@ -210,15 +198,27 @@ def expected(path: str) -> dict[str, int]:
 
 
 class Feed:
-    """A pipe by which a text arrives in pieces, each of them after the one before has been read."""
+    """A pipe by which a text arrives in pieces, each of them after the one before has been read. With a path it is a
+    named pipe, which the reader opens."""
 
-    def __init__(self, text: bytes, size: int) -> None:
-        self.read_end, self.write_end = os.pipe()
-        os.set_blocking(self.write_end, False)
-        self.left, self.size = memoryview(text), max(size, len(text) // MANY)
+    def __init__(self, text: bytes, size: int, path: str = "") -> None:
+        self.left, self.size, self.path = memoryview(text), max(size, len(text) // MANY), path
+        self.read_end = self.write_end = -1
+        if path:
+            os.mkfifo(path)
+        else:
+            self.read_end, self.write_end = os.pipe()
+            os.set_blocking(self.write_end, False)
 
     def go_on(self) -> bool:
         """Writes the next piece if it is time, and returns whether more is to come."""
+        if self.read_end < 0:
+            try:
+                self.write_end = os.open(self.path, os.O_WRONLY | os.O_NONBLOCK)
+            except OSError:
+                # The reader has not opened it yet.
+                return True
+            self.read_end = os.open(self.path, os.O_RDONLY | os.O_NONBLOCK)
         unread = struct.unpack("i", fcntl.ioctl(self.read_end, termios.FIONREAD, bytes(4)))[0]
         if self.write_end < 0 or unread:
             return self.write_end >= 0
@@ -229,10 +229,26 @@ class Feed:
             self.write_end = -1
         return bool(self.left)
 
+    def fileno(self) -> int:
+        return self.read_end
+
     def close(self) -> None:
         for it in [self.read_end, self.write_end]:
             if it >= 0:
                 os.close(it)
+        if self.path:
+            os.remove(self.path)
+
+
+def opened(given: str, size: int | None, path: str = "") -> Any:
+    """Returns the pipe of a text, or its file if there is no size of pieces, at a path if one is given."""
+    text = given.encode("latin-1")
+    if size:
+        return contextlib.closing(Feed(text, size, path))
+    file = open(path, "w+b") if path else tempfile.TemporaryFile()
+    file.write(text)
+    file.seek(0)
+    return file
 
 
 def run_by(command: list[str]) -> list[str]:
@@ -256,66 +272,114 @@ class Runner:
     """The reader that is tested."""
 
     def __init__(self, asked: argparse.Namespace) -> None:
-        self.command, self.limit, self.level = run_by(asked.command), asked.limit, LEVELS.index(asked.level)
-        if asked.memory:
-            self.command = ["sh", "-c", 'ulimit -v "$0" && exec "$@"', str(1024 * asked.memory), *self.command]
-        self.refused = asked.refused
+        self.command, self.limit, self.level = asked.command, asked.limit, LEVELS.index(asked.level)
+        self.memory, self.expected, self.refused = asked.memory, asked.expected, asked.refused
         self.refusal = f"status {asked.refused}" if asked.refused else "a status other than 0"
-        # The size of pieces: of the whole text, or given; or none, where standard input is a file.
-        self.ways: list[int | None] = [None, sys.maxsize, *asked.pieces]
-        self.stuck = 0
-        # The longest calls, in seconds by the clock, with the ids of their cases.
-        self.slow: list[tuple[float, str]] = []
+        # How many calls this script ended; why no further case is tried, and the status for that.
+        self.stuck, self.why, self.status = 0, "", 0
+
+    def prepare(self) -> None:
+        """Finds the program, and lets signals end the calls. Writing to a reader that has ended is an error."""
+        signal.signal(signal.SIGPIPE, signal.SIG_IGN)
+        for it in (signal.SIGINT, signal.SIGTERM):
+            signal.signal(it, self.end_by)
+        try:
+            self.command = run_by(self.command)
+        except Unusable as error:
+            self.end(str(error), USAGE)
+        if self.memory:
+            self.command = ["sh", "-c", 'ulimit -v "$0" && exec "$@"', str(1024 * self.memory), *self.command]
+
+    def end_by(self, number: int, _: object) -> None:
+        """Ends the calls. A second signal ends this script."""
+        signal.signal(number, signal.SIG_DFL)
+        self.end(f"ended by {signal.Signals(number).name}", 128 + number)
+
+    def end(self, why: str, status: int) -> None:
+        """Lets no further case be tried, for the first reason that is told."""
+        if not self.why:
+            self.why, self.status = why, status
 
     def call(self, words: Sequence[str], given: str = "", size: int | None = None) -> Answer:
         """Runs the reader with these arguments on a text, which is a file or arrives by a pipe in pieces of a size."""
-        feed = Feed(given.encode("latin-1"), size) if size else None
-        try:
-            if feed:
-                return self.run(words, feed.read_end, feed)
-            with tempfile.TemporaryFile() as text:
-                text.write(given.encode("latin-1"))
-                text.seek(0)
-                return self.run(words, text, None)
-        finally:
-            if feed:
-                feed.close()
-
-    def run(self, words: Sequence[str], stdin: Any, feed: Feed | None) -> Answer:
-        """Runs the reader with these arguments and this standard input."""
-        streams = {"stdin": stdin, "stdout": subprocess.PIPE, "stderr": subprocess.PIPE}
-        with self.started([*self.command, *words], streams) as process:
+        with opened(given, size) as stdin, self.started(words, stdin) as process:
             try:
-                found = read(process, self.limit, feed)
+                return self.read(process, stdin if size else None)
             finally:
                 # The reader may have started others, which would keep its streams open.
                 stop(process)
+
+    def started(self, words: Sequence[str], stdin: Any) -> subprocess.Popen[bytes]:
+        """Starts the reader."""
+        streams = {"stdin": stdin, "stdout": subprocess.PIPE, "stderr": subprocess.PIPE}
+        try:
+            return subprocess.Popen([*self.command, *words], start_new_session=True, **streams)
+        except OSError as error:
+            raise Unusable(f"{self.command[0]}: {error.strerror}") from None
+
+    def read(self, process: subprocess.Popen[bytes], feed: Feed | None, is_line: bool = False) -> Answer:
+        """Reads what a process prints until it ends, or until it ends a line, or exceeds a limit."""
+        assert process.stdout and process.stderr
+        end, found = time.monotonic() + self.limit, {process.stdout: b"", process.stderr: b""}
+        status: int | None = 0
+        with selectors.DefaultSelector() as streams:
+            for stream in found:
+                streams.register(stream, selectors.EVENT_READ, stream)
+            while streams.get_map() and not (is_line and found[process.stdout].endswith(b"\n")):
+                left = self.left(end)
+                if not left or MOST < sum(map(len, found.values())):
+                    status = None
+                    break
+                for key, _ in streams.select(min(PAUSE, left) if feed and feed.go_on() else left):
+                    piece = os.read(key.fd, 65536)
+                    found[key.data] += piece
+                    if not piece:
+                        streams.unregister(key.fileobj)
+            if not streams.get_map():
+                status = self.ended(process, end)
+        return self.counted(Answer(found[process.stdout], found[process.stderr], status))
+
+    def left(self, end: float) -> float:
+        """Returns the seconds until the next look at a call, or 0 if it has had its time."""
+        if self.why:
+            raise Unusable(self.why)
+        return max(0, min(LOOK, end - time.monotonic()))
+
+    def ended(self, process: subprocess.Popen[bytes], end: float) -> int | None:
+        """Waits until a process ends, and returns its status, or None if its time is over."""
+        while left := self.left(end):
+            with contextlib.suppress(subprocess.TimeoutExpired):
+                return process.wait(left)
+        return None
+
+    def counted(self, found: Answer) -> Answer:
+        """Returns an answer. After it, there may be no use in a further case."""
         self.stuck += found.status is None
+        if self.stuck >= PATIENCE:
+            stuck = f"{PATIENCE} calls did not end within {self.limit:g} seconds"
+            self.end(f"{stuck}, and the other cases are not tried", FAILED)
         if found.status == BROKEN:
             (last,) = found.err.splitlines()[-1:] or [b""]
             raise Unusable(f"{self.command[0]} cannot work: {last.decode(errors='replace')}")
         return found
 
-    def started(self, words: Sequence[str], streams: dict[str, Any]) -> subprocess.Popen[bytes]:
-        """Starts the reader."""
-        try:
-            return subprocess.Popen(words, start_new_session=True, **streams)
-        except OSError as error:
-            raise Unusable(f"{words[0]}: {error.strerror}") from None
-
     def close(self) -> None:
-        """Ends what was started."""
+        """Ends what was started. Whoever reads the output may stop before its end."""
+        signal.signal(signal.SIGPIPE, signal.SIG_DFL)
 
-    def judged(self, case: Case) -> list[str]:
-        """Returns how the reader fails a case."""
-        if self.stuck >= PATIENCE:
-            raise Stuck
-        begun = time.monotonic()
-        found = [*self.failures(case)]
+    def judged(self, case: Case) -> Result:
+        """Tries a case."""
+        begun, failures = time.monotonic(), list[str]()
+        is_tried = not self.why
+        try:
+            for it in self.failures(case) if is_tried else ():
+                failures.append(it)
+        except (Unusable, OSError) as error:
+            self.end(str(error), USAGE)
+            # A call before this one may have failed.
+            is_tried = failures != []
         seconds = time.monotonic() - begun
-        if self.limit / 2 < seconds:
-            self.slow.append((seconds, case["id"]))
-        return found
+        return Result(case, failures if is_tried else None, seconds, case["id"] in self.expected)
 
     def failures(self, case: Case) -> Iterator[str]:
         """Yields how the answers of the reader differ from those of a case."""
@@ -342,8 +406,9 @@ class Runner:
                     yield f"{call} printed {told(found)} before the refusal"
 
     def way(self, name: str) -> int | None:
-        """Returns the size of pieces in which the text of a case arrives, which depends on its id alone."""
-        return self.ways[zlib.crc32(name.encode()) % len(self.ways)]
+        """Returns the size of pieces in which the text of a case arrives. It depends on the id alone, so that a case
+        that is added changes no other one."""
+        return WAYS[zlib.crc32(name.encode()) % len(WAYS)]
 
     def by(self, size: int | None) -> str:
         """Returns how a text arrived, for a person."""
@@ -406,57 +471,25 @@ class Batch(Runner):
         super().__init__(asked)
         self.folder = tempfile.TemporaryDirectory(prefix="conformance-")
         self.processes: dict[int, subprocess.Popen[bytes]] = {}
-        # The text of the file of each thread.
-        self.given: dict[str, str] = {}
 
     def call(self, words: Sequence[str], given: str = "", size: int | None = None) -> Answer:
-        """Asks the reader of this thread to answer a call, in which a file is in place of standard input."""
-        path = os.path.join(self.folder.name, str(threading.get_ident()))
-        # The calls of a case have the same text.
-        if self.given.get(path) is not given:
-            self.given[path] = given
-            with open(path, "wb") as file:
-                file.write(given.encode("latin-1"))
-        found = self.ask("\t".join(path if it == "-" else it for it in words))
-        self.stuck += found.status is None
-        if found.status == 0:
-            return self.answer(found.out.removesuffix(b"\n"), path.encode())
-        stop(self.processes.pop(threading.get_ident()))
-        return found
-
-    def by(self, size: int | None) -> str:
-        return ""
-
-    def ask(self, request: str) -> Answer:
-        """Writes a line to the reader, and returns the line that it answers; its status is 0 unless it ends."""
-        process = self.process()
-        assert process.stdin and process.stdout
-        clock: Clock | None = None
-        line = b""
-        try:
-            process.stdin.write(f"{request}\n".encode())
-            process.stdin.flush()
-        except OSError:
-            return Answer(line, b"", process.wait() or FAILED)
-        while not line.endswith(b"\n"):
-            ready = select.select([process.stdout], [], [], min(1, clock.left()) if clock else AT_ONCE)[0]
-            # Most answers come at once, and need no look at the processor time.
-            clock = clock or (None if ready else Clock(process.pid, self.limit))
-            if clock and not clock.left() or MOST < len(line):
-                return Answer(line, b"", None)
-            piece = os.read(process.stdout.fileno(), 65536) if ready else b""
-            if ready and not piece:
-                return Answer(line, b"", ended(process, clock or Clock(process.pid, self.limit)) or FAILED)
-            line += piece
-        return Answer(line, b"", 0)
-
-    def process(self) -> subprocess.Popen[bytes]:
-        """Returns the reader of this thread."""
+        """Asks the reader of this thread to answer a call, in which a file or a named pipe is in place of standard
+        input."""
         own = threading.get_ident()
         if own not in self.processes:
-            streams = {"stdin": subprocess.PIPE, "stdout": subprocess.PIPE, "stderr": subprocess.DEVNULL}
-            self.processes[own] = self.started(self.command, streams)
-        return self.processes[own]
+            self.processes[own] = self.started([], subprocess.PIPE)
+        path, process = os.path.join(self.folder.name, f"{own}{'-pipe' if size else ''}"), self.processes[own]
+        assert process.stdin
+        with opened(given, size, path) as source:
+            # A reader that has ended is seen where its answer is read.
+            with contextlib.suppress(OSError):
+                process.stdin.write("\t".join(path if it == "-" else it for it in words).encode() + b"\n")
+                process.stdin.flush()
+            found = self.read(process, source if size else None, True)
+        if found.status == 0 and found.out.endswith(b"\n"):
+            return self.answer(found.out[:-1], path.encode())._replace(aside=found.err)
+        stop(self.processes.pop(own))
+        return found._replace(status=FAILED) if found.status == 0 else found
 
     def answer(self, line: bytes, path: bytes) -> Answer:
         """Returns what a call of its own would have printed in place of a line."""
@@ -474,63 +507,7 @@ class Batch(Runner):
             stop(it)
             it.communicate()
         self.folder.cleanup()
-
-
-class Clock:
-    """How long a call takes."""
-
-    def __init__(self, pid: int, limit: float) -> None:
-        self.pid, self.limit, self.begun = pid, limit, time.monotonic()
-        self.before = processor_time(pid) or 0
-
-    def left(self) -> float:
-        """Returns the seconds to wait before the next look at the processor time, or 0 if the call has had its time."""
-        passed = time.monotonic() - self.begun
-        if passed < self.limit:
-            return self.limit - passed
-        taken = processor_time(self.pid)
-        return 0 if taken is None or CLOCK * self.limit < passed else max(0, self.limit - taken + self.before)
-
-
-def processor_time(pid: int) -> float | None:
-    """Returns the seconds of processor time that a process has taken, or None where the system does not tell."""
-    try:
-        with open(f"/proc/{pid}/stat", encoding="latin-1") as file:
-            fields = file.read().rpartition(")")[2].split()
-    except OSError:
-        return None
-    return sum(map(int, fields[11:15])) / os.sysconf("SC_CLK_TCK")
-
-
-def read(process: subprocess.Popen[bytes], limit: float, feed: Feed | None) -> Answer:
-    """Reads what a process prints until it ends or exceeds a limit."""
-    clock = Clock(process.pid, limit)
-    found = {process.stdout: b"", process.stderr: b""}
-    with selectors.DefaultSelector() as streams:
-        for it in found:
-            if it:
-                streams.register(it, selectors.EVENT_READ, it)
-        while streams.get_map():
-            wait = PAUSE if feed and feed.go_on() else 1
-            ready = streams.select(min(wait, clock.left()))
-            if not clock.left() or MOST < sum(map(len, found.values())):
-                return Answer(found[process.stdout], found[process.stderr], None)
-            for key, _ in ready:
-                piece = os.read(key.fd, 65536)
-                found[key.data] += piece
-                if not piece:
-                    streams.unregister(key.fileobj)
-    return Answer(found[process.stdout], found[process.stderr], ended(process, clock))
-
-
-def ended(process: subprocess.Popen[bytes], clock: Clock) -> int | None:
-    """Waits until a process ends, and returns its status, or None if its time is over."""
-    while True:
-        try:
-            return process.wait(clock.left())
-        except subprocess.TimeoutExpired:
-            if not clock.left():
-                return None
+        super().close()
 
 
 def stop(process: subprocess.Popen[bytes]) -> None:
@@ -545,10 +522,12 @@ def stop(process: subprocess.Popen[bytes]) -> None:
 def told(found: Answer) -> str:
     """Returns what a call printed, for a person."""
     printed = brief((found.out + found.err).decode("latin-1"))
+    aside = f", and {brief(found.aside.decode('latin-1'))} on standard error" if found.aside else ""
     if found.status is None:
-        return f"{printed}, and was ended: it printed too much" if MOST < len(found.out) else f"{printed}, with no end"
+        is_much = MOST < len(found.out) + len(found.err)
+        return f"{printed}, and was ended: it printed too much" if is_much else f"{printed}, with no end"
     ended = f"ended by signal {-found.status}" if found.status < 0 else f"status {found.status}"
-    return f"{printed}, {ended}"
+    return f"{printed}{aside}, {ended}"
 
 
 def brief(text: str) -> str:
@@ -597,14 +576,17 @@ def is_chosen(case: Case, asked: argparse.Namespace) -> bool:
 
 
 class Result(NamedTuple):
-    """A case, how the reader fails it, and whether it is known to fail."""
+    """A case, how the reader fails it, or None if it was not tried, the seconds, and whether it is known to fail."""
 
     case: Case
-    failures: list[str]
+    failures: list[str] | None
+    seconds: float
     is_known: bool
 
     @property
     def outcome(self) -> str:
+        if self.failures is None:
+            return "not tried"
         if self.is_known:
             return "fails as expected" if self.failures else "passes unexpectedly"
         return "fails" if self.failures else "passes"
@@ -636,39 +618,32 @@ def shown(rule: Case, found: list[Result], is_all: bool) -> Iterator[str]:
         yield f"  and {rest} (--all shows them)"
 
 
-def tap(found: list[Result]) -> Iterator[str]:
-    """Yields the lines of the Test Anything Protocol."""
-    yield from ["TAP version 13", f"1..{len(found)}"]
-    for number, it in enumerate(found, 1):
-        todo = " # TODO known to fail" if it.is_known else ""
-        yield f"{'not ok' if it.failures else 'ok'} {number} - {it.case['id']}{todo}"
-        yield from (f"# {failure}" for failure in (it.messages() if it.is_bad else []))
-
-
-def junit(found: list[Result]) -> Iterator[str]:
+def junit(found: list[Result], why: str) -> Iterator[str]:
     """Yields XML as tools for JUnit read it."""
     element = xml.etree.ElementTree.SubElement
-    counts = {"tests": str(len(found)), "failures": str(sum(it.is_bad for it in found))}
-    suite = xml.etree.ElementTree.Element("testsuite", {"name": "conformance", **counts})
+    errors = sum(it.failures is None for it in found)
+    counts = {"tests": len(found), "failures": sum(it.is_bad for it in found), "errors": errors}
+    attributes = {"name": "conformance", **{name: str(count) for name, count in counts.items()}}
+    suite = xml.etree.ElementTree.Element("testsuite", attributes, time=f"{sum(it.seconds for it in found):.3f}")
     for it in found:
-        case = element(suite, "testcase", classname=it.case["rule"], name=it.case["id"])
-        if it.is_bad:
+        case = element(suite, "testcase", classname=it.case["rule"], name=it.case["id"], time=f"{it.seconds:.3f}")
+        if it.failures is None:
+            element(case, "error", message=f"not tried: {brief(why)}")
+        elif it.is_bad:
             element(case, "failure", message=it.case["about"]).text = "\n".join(it.messages())
         elif it.is_known:
             element(case, "skipped", message="known to fail")
     yield xml.etree.ElementTree.tostring(suite, encoding="us-ascii", xml_declaration=True).decode()
 
 
-def as_json(found: list[Result]) -> Iterator[str]:
+def as_json(found: list[Result], _: str) -> Iterator[str]:
     """Yields a JSON object, with a case in each line."""
-    lines = [
-        json.dumps({"id": it.case["id"], "rule": it.case["rule"], "outcome": it.outcome, "failures": it.failures})
-        for it in found
-    ]
-    yield '{"cases":[\n' + ",\n".join(lines) + "\n]}"
+    fields = ({"id": it.case["id"], "rule": it.case["rule"], "outcome": it.outcome} for it in found)
+    more = ({"failures": it.failures or [], "seconds": round(it.seconds, 3)} for it in found)
+    yield '{"cases":[\n' + ",\n".join(json.dumps({**one, **two}) for one, two in zip(fields, more)) + "\n]}"
 
 
-SHAPES = {"tap": tap, "junit": junit, "json": as_json}
+SHAPES = {"junit": junit, "json": as_json}
 
 
 def write(cases: list[Case], folder: str) -> None:
@@ -683,49 +658,38 @@ def write(cases: list[Case], folder: str) -> None:
                 file.write(text.encode("latin-1"))
 
 
-def run_all(runner: Runner, chosen: list[Case], asked: argparse.Namespace) -> Iterator[Result]:
-    """Yields the results of the cases."""
-    with ThreadPoolExecutor(asked.jobs) as pool:
-        for case, failures in zip(chosen, pool.map(runner.judged, chosen)):
-            yield Result(case, failures, case["id"] in asked.expected)
-
-
-def with_progress(results: Iterator[Result], total: int) -> Iterator[Result]:
-    """Yields results, and shows on a terminal how many of them there are."""
-    if sys.stderr is None or not sys.stderr.isatty():
-        yield from results
-        return
-    drawn = 0.0
-    try:
-        for count, it in enumerate(results, 1):
-            if drawn + DRAWING <= time.monotonic():
+def run_all(runner: Runner, chosen: list[Case], jobs: int) -> Iterator[Result]:
+    """Yields the results of the cases, and shows on a terminal how many of them there are."""
+    is_shown, drawn = sys.stderr is not None and sys.stderr.isatty(), 0.0
+    with ThreadPoolExecutor(jobs) as pool:
+        for count, it in enumerate([pool.submit(runner.judged, case) for case in chosen]):
+            # Where a signal reaches another thread, this one handles it at the next look.
+            while not it.done():
+                wait([it], LOOK)
+            if is_shown and drawn + LOOK <= time.monotonic():
                 drawn = time.monotonic()
-                print(f"\r{count} of {total} cases", end="", flush=True, file=sys.stderr)
-            yield it
-    finally:
+                print(f"\r{count} of {len(chosen)} cases", end="", flush=True, file=sys.stderr)
+            yield it.result()
+    if is_shown:
         print("\r\x1b[K", end="", flush=True, file=sys.stderr)
 
 
 def by_rule(rules: list[Case], found: list[Result], is_all: bool) -> Iterator[str]:
-    """Yields the lines on the failures of all rules, first of those with the greatest share of failures: a mistake
-    fails most cases of its own rule."""
-    own = [(rule, [it for it in found if it.case["rule"] == rule["rule"]]) for rule in rules]
-    shares = [(sum(it.is_bad for it in results) / len(results), i) for i, (_, results) in enumerate(own) if results]
-    for share, i in sorted(shares, key=lambda it: (-it[0], it[1])):
-        if share:
-            yield from shown(*own[i], is_all)
+    """Yields the lines on the failures of all rules, in the order of FORMAT.md: a mistake in what the others rest on
+    comes first."""
+    for rule in rules:
+        own = [it for it in found if it.case["rule"] == rule["rule"]]
+        if any(it.is_bad for it in own):
+            yield from shown(rule, own, is_all)
 
 
-def summary(runner: Runner, found: list[Result], asked: argparse.Namespace) -> Iterator[str]:
-    """Yields the last lines."""
-    if runner.slow:
-        seconds, name = max(runner.slow)
-        half = f"{runner.limit / 2:g} seconds"
-        yield f"{len(runner.slow)} cases took more than {half}, the longest {seconds:.1f} seconds: {name}"
+def summary(found: list[Result], asked: argparse.Namespace) -> str:
+    """Returns the last line."""
+    count = {it: sum(it == own.outcome for own in found) for it in ("passes", "fails as expected", "not tried")}
     bad = sum(it.is_bad for it in found)
-    known = sum(it.outcome == "fails as expected" for it in found)
-    told_known = f", {known} fail as expected" if asked.expect else ""
-    yield f"{len(found) - bad - known} cases pass, {bad} fail{told_known} (level {asked.level})"
+    known = f", {count['fails as expected']} fail as expected" if asked.expect else ""
+    left = f", {count['not tried']} are not tried" if count["not tried"] else ""
+    return f"{count['passes']} cases pass, {bad} fail{known}{left} (level {asked.level})"
 
 
 def loaded() -> Any:
@@ -744,27 +708,27 @@ def printed(lines: Iterable[str], is_aside: bool = False) -> None:
 
 def tried(rules: list[Case], asked: argparse.Namespace) -> int:
     """Runs the cases, prints which of them fail, and returns the status."""
-    runner = Batch(asked) if asked.batch else Runner(asked)
     cases = [{**case, "rule": rule["rule"]} for rule in rules for case in rule["cases"]]
     chosen = [it for it in cases if is_chosen(it, asked)]
-    found: list[Result] = []
-    try:
-        if asked.write:
-            write(chosen, asked.write)
-            return 0
-        for it in with_progress(run_all(runner, chosen, asked), len(chosen)):
-            found.append(it)
-    except Stuck:
-        stuck = (
-            f"run.py: {PATIENCE} calls did not end within {asked.limit:g} seconds, and the other cases are not tried"
-        )
-        printed([*by_rule(rules, found, asked.all), stuck])
-        return FAILED
-    finally:
-        runner.close()
-    printed(SHAPES[asked.shape](found) if asked.shape else by_rule(rules, found, asked.all))
-    printed(summary(runner, found, asked), bool(asked.shape))
-    return FAILED if any(it.is_bad for it in found) else 0
+    if asked.write:
+        write(chosen, asked.write)
+        return 0
+    with contextlib.closing(Batch(asked) if asked.batch else Runner(asked)) as runner:
+        runner.prepare()
+        found = [*run_all(runner, chosen, asked.jobs)]
+    if asked.shape:
+        printed(SHAPES[asked.shape](found, runner.why))
+    else:
+        printed(by_rule(rules, found, asked.all))
+    printed([f"run.py: {runner.why}"] if runner.why else [], bool(asked.shape) or runner.status != FAILED)
+    if runner.status == USAGE:
+        return USAGE
+    printed([summary(found, asked)], bool(asked.shape))
+    if asked.expect_write and not runner.why:
+        with open(asked.expect_write, "w", encoding="utf-8") as file:
+            file.writelines(f"{it.case['id']}\n" for it in found if it.failures)
+        return 0
+    return runner.status or (FAILED if any(it.is_bad for it in found) else 0)
 
 
 def main(words: Sequence[str] | None = None) -> int:
@@ -775,9 +739,6 @@ def main(words: Sequence[str] | None = None) -> int:
         if asked.version:
             printed([f"cases {suite['version']}"])
             return 0
-        if asked.batch:
-            # Writing to a reader that has ended is an error of its case.
-            signal.signal(signal.SIGPIPE, signal.SIG_IGN)
         return tried(suite["rules"], asked)
     except (Unusable, OSError) as error:
         printed([f"run.py: {error}"], True)
@@ -785,6 +746,4 @@ def main(words: Sequence[str] | None = None) -> int:
 
 
 if __name__ == "__main__":
-    # Whoever reads the output may stop before its end.
-    signal.signal(signal.SIGPIPE, signal.SIG_DFL)
     sys.exit(main())

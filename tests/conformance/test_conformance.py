@@ -30,8 +30,6 @@ from pages import anchors, anchors_in  # noqa: E402
 
 pytestmark = pytest.mark.whole
 RUN, FORMAT = f"{FOLDER}/run.py", "docs/FORMAT.md"
-# A limit that no call of the program comes near, even on a busy machine: the suite prints a line on calls that do.
-PATIENT = ["--limit", str(5 * LIMIT)]
 # What follows "Cases:" in FORMAT.md: names, or a range of names.
 NAMED = re.compile(r"\*[Cc]ases\b[^`]*((?:`[\w-]+`(?: to |, and |, )?)+)")
 RANGE = re.compile(r"`refusal-(\d+)` to `refusal-(\d+)`")
@@ -62,10 +60,27 @@ FAILING = [
 ]  # fmt: skip
 # Readers in sh that fail with --batch, with a part of what run.py prints.
 BATCHES = [
-    ("read line; exit 7", "check printed '', status 7; expected"),
-    ("while read line; do echo yes; done", "check printed 'yes\\n', status 2; expected"),
-    ("exec sleep 60", "check printed '', with no end; expected"),
-    ("exit 0", "check printed '', status 1; expected"),
+    ("read line; echo lost >&2; exit 7", " printed 'lost\\n', status 7; expected"),
+    ("while read it; do echo hm >&2; echo yes; done", " printed 'yes\\n', and 'hm\\n' on standard error, status 2;"),
+    ("exec sleep 60", " printed '', with no end; expected"),
+    ("exit 0", " printed '', status 1; expected"),
+]
+# Readers in sh that do not answer: what each does, how many cases fail before no further one is tried, and the status
+# of run.py.
+UNFINISHED = [
+    ("does not end", "while :; do :; done", 10, 1),
+    ("dies", "kill -9 $$", 99, 1),
+    ("prints 10 MB", "head -c 10000000 /dev/zero", 10, 1),
+    ("prints 10 MB on standard error", "head -c 10000000 /dev/zero >&2", 10, 1),
+    ("cannot work", "exit 125", 0, 3),
+    ("is there when SIGTERM comes", "kill -TERM $PPID; exec sleep 60", 0, 143),
+    ("is there when SIGINT comes", "kill -INT $PPID; exec sleep 60 > /dev/null 2>&1", 0, 130),
+]
+# Faults of reading, in place of the function that reads a file of a batch.
+FAULTS = [
+    ("one read", "os.read(file.fileno(), 1 << 24)"),
+    ("the size of a file", "file.read(os.fstat(file.fileno()).st_size)"),
+    ("a place in a file", "file.read() if file.seekable() else b''"),
 ]
 # Wrong command lines, and a part of what is said of them.
 WRONG: list[tuple[list[str], str]] = [
@@ -78,8 +93,7 @@ WRONG: list[tuple[list[str], str]] = [
     (["--refused", "256", "true"], "invalid status value: '256'"),
     (["--memory", "0", "true"], "--memory is at least 1"),
     (["--expect", "/nowhere/list", "true"], "/nowhere/list: No such file or directory"),
-    (["--tap", "--json", "true"], "--json: not allowed with argument --tap"),
-    (["--pieces", "0", "true"], "invalid sizes value: '0'"), (["--pieces", "1,", "true"], "invalid sizes value: '1,'"),
+    (["--junit", "--json", "true"], "--json: not allowed with argument --junit"),
     (["--lev", "accept", "true"], "unrecognized arguments: --lev"),
     (["/nowhere/reader"], "/nowhere/reader: No such file or directory"),
     (["/etc/passwd"], "/etc/passwd: Permission denied"),
@@ -113,8 +127,6 @@ LIMITED = [
     ("no refusal", '"$P" "$@" || exit 0', "--level accept --rule refusal-8 --refused any", 1),
     ("a choice of FORMAT.md, level challenge", PLAIN, "--rule number --level challenge", 0),
     ("a choice of FORMAT.md", PLAIN, "--rule number --level accept", 1),
-    ("a call that sleeps", 'sleep 0.6; exec "$P" "$@"', "--case first-min --limit 0.3", 0),
-    ("a call that does not sleep", "while :; do :; done", "--case first-min --limit 0.3", 1),
 ]
 
 
@@ -319,19 +331,21 @@ def test_known_failures(made: Conformance) -> None:
         found = made.run(*words, reader)
         assert (found.out.decode().endswith(end), found.status) == (True, status), f"--expect {names!r}: {found}"
     write(f"{made.folder}/expected", "first-min\nfirst-max\n")
-    for shape, part in [
-        ("--tap", "not ok 1 - first-min # TODO known to fail\n"),
-        ("--junit", '<skipped message="known'),
-    ]:
-        found = made.run(shape, *words, reader)
-        assert (part in found.out.decode(), found.status) == (True, 0), f"{shape} of known failures: {found}"
+    found = made.run("--junit", *words, reader)
+    assert (found.out.count(b'<skipped message="known'), found.status) == (2, 0), f"known failures: {found}"
     write(f"{made.folder}/expected", "first-min\n")
     found = made.run(*words, made.tested)
     told = "    passes now, and should no longer be expected to fail\n1 cases pass, 1 fail, 0 fail as expected"
     assert (told in found.out.decode(), found.status) == (True, 1), f"a case that passes now: {found}"
-    write(f"{made.folder}/expected", "first-min\nfirst-one\n")
-    found = made.run(*words, made.tested)
-    assert b"expected:2: no case has the id 'first-one'" in found.err, f"an id of no case: {found}"
+    write(f"{made.folder}/expected", "first-min\nfirst-one\nfirst-max\n")
+    found = made.run(*words, reader)
+    told = f"run.py: {made.folder}/expected:2: warning: no case has the id 'first-one'\n"
+    assert (found.err.decode(), found.status) == (told, 0), f"an id of no case: {found}"
+    for words in [["--rule", "first"], ["--rule", "first", "--expect", "made"]]:
+        found = made.run(*words, "--expect-write", "made", reader)
+        assert (text_of("made").split(), found.status) == (ids_of("first"), 0), f"{words}: {found}"
+    found = made.run("--rule", "pair", "--limit", "0.1", "--expect-write", "made", made.reader("exec sleep 60"))
+    assert (text_of("made").split(), found.status) == (ids_of("first"), 1), f"cases that are not tried: {found}"
 
 
 def test_shapes(made: Conformance) -> None:
@@ -341,16 +355,14 @@ def test_shapes(made: Conformance) -> None:
     text = made.run("--all", *words).out.decode()
     bad = [it for it in ids if f"\n  {it}: " in text]
     assert 0 < len(bad) < len(ids), f"cases that fail and cases that pass: {len(bad)} of {len(ids)}"
-    tap = made.run("--tap", *words).out.decode().splitlines()
-    assert tap[:2] == ["TAP version 13", f"1..{len(ids)}"], "--tap"
-    assert [it.split(" - ")[1] for it in tap if it.startswith("not ok ")] == bad, "--tap, results"
-    assert sum(it.startswith(("ok ", "not ok ")) for it in tap) == len(ids), "--tap, all results"
     tree = ElementTree.fromstring(made.run("--junit", *words).out)
     failed = [it.get("name") for it in tree if it.find("failure") is not None]
     assert (tree.get("tests"), tree.get("failures"), failed) == (str(len(ids)), str(len(bad)), bad), "--junit"
     cases = json.loads(made.run("--json", *words).out)["cases"]
     found = [it["id"] for it in cases if it["outcome"] == "fails" and it["failures"]]
     assert (len(cases), found) == (len(ids), bad), "--json"
+    tree = ElementTree.fromstring(made.run("--case", "first-min", "--junit", made.reader("sleep 0.2")).out)
+    assert [0.2 < float(it.get("time", "")) < LIMIT for it in (tree, tree[0])] == [True, True], "times"
     written = f"{made.folder}/texts"
     assert made.run("--rule", "form", "--rule", "fit", "--write", written) == said(), "--write"
     for case in (it for it in CASES if it["rule"] in ("form", "fit")):
@@ -362,7 +374,7 @@ def test_shapes(made: Conformance) -> None:
 
 def test_messages(made: Conformance) -> None:
     """A text of a message gives its bytes back in a shell, that the first line that differs is told, and
-    that the rule with the greatest share of failures comes first."""
+    that rules come in the order of FORMAT.md."""
     for name, text in [("byte-sp-a-between-a0", b"a 20 30\xa0-14\n"), ("comment-ends-in-percent", b"a 1 2 7 % x\n")]:
         found = made.run("--level", "accept", "--case", name, made.reader("exit 0")).out.decode()
         printed = run(["sh", "-c", re.findall("text: (printf .*)", found)[0]]).out
@@ -374,7 +386,7 @@ def test_messages(made: Conformance) -> None:
     reader = made.reader('[ "$1 $3" = "canon 2" ] && set -- canon -; exec "$P" "$@"')
     found = made.run("--rule", "range", "--rule", "form", reader).out.decode()
     heads = [it.partition(":")[0] for it in found.splitlines()[:-1] if not it.startswith(" ")]
-    assert heads == ["form", "range"], "the rules of a mistake in form 2"
+    assert heads == ["range", "form"], "the rules of a mistake in form 2"
 
 
 @pytest.mark.parametrize("what, script, words, status", LIMITED, ids=[it[0] for it in LIMITED])
@@ -382,12 +394,6 @@ def test_limits(made: Conformance, what: str, script: str, words: str, status: i
     """Statuses of refusals, the level that only the Challenges decide, and the limit of time."""
     found = made.run(*words.split(), made.reader(script))
     assert (found.err, found.status) == (b"", status)
-
-
-def test_slow_case(made: Conformance) -> None:
-    found = made.run("--case", "first-min", "--limit", "0.3", made.reader('sleep 0.2; exec "$P" "$@"'))
-    told = rb"1 cases took more than 0.15 seconds, the longest \d+\.\d seconds: first-min\n"
-    assert re.match(told, found.out)
 
 
 def test_memory(made: Conformance) -> None:
@@ -407,10 +413,39 @@ def test_installed() -> None:
 def test_batch(made: Conformance) -> None:
     """A reader that answers many calls: reading.py passes with --batch."""
     found = made.run("--batch", "--level", "compare", sys.executable, f"{ROOT}/tests/conformance/suite.py", "batch")
-    count = len(CASES)
-    # A line on slow cases may stand before the last one.
-    last = found.out.decode().splitlines()[-1:]
-    assert (last, found.err, found.status) == ([f"{count} cases pass, 0 fail (level compare)"], b"", 0)
+    assert found == said(f"{len(CASES)} cases pass, 0 fail (level compare)\n")
+
+
+@pytest.mark.parametrize("what, expression", FAULTS, ids=[it[0] for it in FAULTS])
+def test_batch_by_pipe(made: Conformance, what: str, expression: str) -> None:
+    """A reader in a batch that reads files right, but not pipes."""
+    reader = f"def bytes_of(name):\n with open(name, 'rb') as file: return {expression}\n"
+    loop = "for it in sys.stdin: print(suite.reply(*it.rstrip('\\n').split('\\t')), flush=True)"
+    write("own.py", f"import os, suite, sys\n{reader}suite.bytes_of = bytes_of\n{loop}\n")
+    words = ["--batch", "--rule", "first", "--rule", "ninth", "--rule", "line-end", "--json"]
+    found = made.run(*words, "env", f"PYTHONPATH={ROOT}/tests/conformance", sys.executable, "own.py")
+    failures = [it for case in json.loads(found.out)["cases"] for it in case["failures"]]
+    # A file may be read so.
+    assert (found.status, {"from a pipe" in it for it in failures}) == (1, {True}), failures
+
+
+@pytest.mark.parametrize("shape", ["--json", "--junit", "--json --batch", "--junit --batch"])
+@pytest.mark.parametrize("what, script, most, status", UNFINISHED, ids=[it[0] for it in UNFINISHED])
+def test_reports(made: Conformance, what: str, script: str, most: int, status: int, shape: str) -> None:
+    """Reports have all cases and nothing else when a reader does not answer them."""
+    limit = "0.3" if what == "does not end" else str(LIMIT)
+    words = ["--rule", "first", "--rule", "terminal", "--limit", limit, "--jobs", "1"]
+    found = made.run(*shape.split(), *words, made.reader(script))
+    if shape.startswith("--json"):
+        rows = [(it["id"], it["outcome"]) for it in json.loads(found.out)["cases"]]
+    else:
+        names = {"failure": "fails", "error": "not tried"}
+        tree = ElementTree.fromstring(found.out)
+        rows = [(it.get("name", ""), names[it[0].tag]) for it in tree]
+        assert tree.get("errors") == str(sum(it == "not tried" for _, it in rows))
+    ids = [*ids_of("first"), *ids_of("terminal")]
+    wanted = [(it, "fails" if at < most else "not tried") for at, it in enumerate(ids)]
+    assert (rows, found.status, found.err != b"") == (wanted, status, True)
 
 
 @pytest.mark.parametrize("script, told", BATCHES)
