@@ -1,6 +1,6 @@
 #!/usr/bin/env node
-// Reads DIMACS network files in Node 18 or later, Deno, Bun and browsers, by the proved reader of dnorm as a WebAssembly
-// module: checks them, writes their canonical texts, compares them. dnorm.d.ts describes what is exported.
+// Reads DIMACS network files in Node 18 or later, Deno, Bun and browsers, by the proved reader of dnorm as a
+// WebAssembly module: checks them, writes their canonical texts, compares them. dnorm.d.ts describes what is exported.
 //
 //     import { load } from './dnorm.mjs';
 //     const dnorm = await load();
@@ -96,8 +96,10 @@ async function* pieces(source) {
   }
 }
 
-const bytesOf = (piece) =>
-  piece instanceof ArrayBuffer ? new Uint8Array(piece) : new Uint8Array(piece.buffer, piece.byteOffset, piece.byteLength);
+function bytesOf(piece) {
+  if (piece instanceof ArrayBuffer) return new Uint8Array(piece);
+  return new Uint8Array(piece.buffer, piece.byteOffset, piece.byteLength);
+}
 
 /** A module with its memory, in which instances are. */
 export class Library {
@@ -340,6 +342,10 @@ export function verdict(difference) {
   return `differ ${what} ${words[what]?.() ?? values}`;
 }
 
+// What a module of this version has.
+const READING = ['begin', 'feed', 'finish', 'facts', 'free'].map((it) => `dnorm_${it}`);
+const ASKING = ['arc_count', 'next', 'items', 'canon', 'text', 'compare', 'fits'].map((it) => `dnorm_${it}`);
+
 /** Makes a library of the module's bytes, which may be packed by gzip, or of a WebAssembly.Module. */
 export async function made(module) {
   let code = module;
@@ -349,8 +355,15 @@ export async function made(module) {
     const isPacked = all[0] === 0x1f;
     code = isPacked ? await new Response(unpacked.pipeThrough(new DecompressionStream('gzip'))).arrayBuffer() : all;
   }
-  const { exports } = await WebAssembly.instantiate(code, {}).then((it) => it.instance ?? it);
-  return new Library(exports);
+  try {
+    const { exports } = await WebAssembly.instantiate(code, {}).then((it) => it.instance ?? it);
+    const lacking = [...READING, ...ASKING, 'malloc', 'free', 'memory'].find((it) => !(it in exports));
+    if (lacking) throw new TypeError(`the module is of another version of dnorm: it has no ${lacking}`);
+    return new Library(exports);
+  } catch (error) {
+    // The memory with which a module begins.
+    throw error instanceof RangeError ? new Refused(30) : error;
+  }
 }
 
 // A page that has no files overrides this.

@@ -12,7 +12,8 @@ let waiting = null;
 const held = [];
 
 const post = (what, more, moved = []) => postMessage({ what, ...more }, moved);
-const told = ({ number = 0, refusal, sentence, place = null, message }) => ({ number, refusal, sentence, place, message });
+const told = ({ number = 0, refusal, sentence, place = null, message }) =>
+  ({ number, refusal, sentence, place, message });
 
 // Yields the pieces of a file, from its beginning.
 async function* text(index) {

@@ -1,6 +1,6 @@
 'use strict';
-// Draws the least costs of a pair of nodes in two `min` problems, as pictures with a table of the corners. The page that
-// checks files has it, and so have pages that are written of two files.
+// Draws the least costs of a pair of nodes in two `min` problems, as pictures with a table of the corners. The page
+// that checks files has it, and so have pages that are written of two files.
 //
 // A curve is a list of corners [amount, cost] by rising amount, numbers that are BigInts: the least cost of an amount
 // between two corners is on the line between them, and outside of the list an amount is infeasible.
@@ -34,7 +34,8 @@ const look = (() => {
 
   // A whole number with narrow blanks between groups of three digits.
   const grouped = (number) => String(number).replace(/\B(?=(\d{3})+$)/g, '\u202f');
-  const short = (number) => (String(number).replace('-', '').length > 9 ? Number(number).toExponential(2) : grouped(number));
+  const isLong = (number) => String(number).replace('-', '').length > 9;
+  const short = (number) => (isLong(number) ? Number(number).toExponential(2) : grouped(number));
   const rising = (a, b) => (a < b ? -1 : Number(a > b));
   const least = (numbers) => numbers.reduce((a, b) => (b < a ? b : a));
   const greatest = (numbers) => numbers.reduce((a, b) => (b > a ? b : a));
@@ -90,8 +91,9 @@ const look = (() => {
       draw('circle', { cx: x.at(it), cy: y.at(cost), r: [4.5, 2.5][i], fill: stroke }));
     const cost = costAt(curve, amount);
     const ring = { r: 7, fill: 'none', stroke: 'var(--bad)', 'stroke-width': 2 };
+    const style = { fill: 'none', stroke, 'stroke-width': [5, 2.5][i], 'stroke-dasharray': ['none', '7 5'][i] };
     return [
-      draw('polyline', { points, fill: 'none', stroke, 'stroke-width': [5, 2.5][i], 'stroke-dasharray': ['none', '7 5'][i] }),
+      draw('polyline', { points, ...style }),
       ...dots,
       ...(cost === null ? [] : [draw('circle', { cx: x.at(amount), cy: y.at(cost), ...ring })]),
     ];

@@ -94,7 +94,8 @@ async function hand(to, { index, anew }) {
 // A line with its blanks and other bytes that cannot be seen.
 function visible(bytes) {
   const marks = { '\t': '\u2192', '\r': '\u21b5' };
-  const shown = [...new TextDecoder().decode(bytes)].map((it) => marks[it] ?? (it < ' ' || it === '\x7f' ? '\ufffd' : it));
+  const isHidden = (it) => it < ' ' || it === '\x7f';
+  const shown = [...new TextDecoder().decode(bytes)].map((it) => marks[it] ?? (isHidden(it) ? '\ufffd' : it));
   return shown.join('') || '(an empty line)';
 }
 
@@ -113,7 +114,8 @@ function words({ what, kind, at, to, index, amount, left, right }) {
     point: () => [`They differ in the point of node ${at}.`],
   };
   if (what !== 'pair') return said[what]();
-  if (kind !== 'min') return [`${pair}: in their ${kind === 'sp' ? 'least length' : 'total capacity'}.`, ...both('no arc')];
+  const number = { sp: 'least length', max: 'total capacity' }[kind];
+  if (number) return [`${pair}: in their ${number}.`, ...both('no arc')];
   return [`${pair}, at amount ${grouped(amount)}. The least costs of this amount are:`, ...both('it is infeasible')];
 }
 
@@ -147,7 +149,8 @@ const SHOW = {
     const more = facts.kind === 'min' ? [button(2, 'Canonical text, form 2')] : [];
     const label = facts.kind === 'min' ? 'Canonical text, form 1' : 'Canonical text';
     const buttons = make('div', { class: 'row' }, button(1, label), ...more);
-    card('good', `${name} is accepted`, list(factsOf(facts, bytes, arcs)), buttons, make('div', { id: `canon${index}` }));
+    const rows = list(factsOf(facts, bytes, arcs));
+    card('good', `${name} is accepted`, rows, buttons, make('div', { id: `canon${index}` }));
   },
 
   refused({ name, error: { number, refusal, sentence, place, message }, shown }) {
@@ -163,8 +166,12 @@ const SHOW = {
   },
 
   fitted({ misfit }) {
-    if (!misfit) card('good wide', 'The companion fits the graph');
-    else card('bad wide', 'The companion does not fit', paragraph(`It names node ${grouped(misfit.node)}, which is not in the graph.`));
+    if (!misfit) {
+      card('good wide', 'The companion fits the graph');
+      return;
+    }
+    const why = `It names node ${grouped(misfit.node)}, which is not in the graph.`;
+    card('bad wide', 'The companion does not fit', paragraph(why));
   },
 
   compared({ difference, curves }) {

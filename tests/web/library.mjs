@@ -1,7 +1,7 @@
 // What a text may come from, readers in turns, and instances that are freed or of two modules.
 import assert from 'node:assert/strict';
 import { createReadStream, readFileSync } from 'node:fs';
-import { Refused, load, verdict } from '../../web/dnorm.mjs';
+import { Refused, load, made, verdict } from '../../web/dnorm.mjs';
 
 const PATH = new URL('../../examples/roads.gr', import.meta.url).pathname;
 const text = readFileSync(PATH);
@@ -16,8 +16,8 @@ async function* generated() {
 }
 
 for (const source of [
-  text, new Uint8Array(text), text.buffer.slice(text.byteOffset, text.byteOffset + text.length), blob, new Response(blob),
-  blob.stream(), createReadStream(PATH), generated(), [text.subarray(0, 9), text.subarray(9)],
+  text, new Uint8Array(text), text.buffer.slice(text.byteOffset, text.byteOffset + text.length), blob, blob.stream(),
+  new Response(blob), createReadStream(PATH), generated(), [text.subarray(0, 9), text.subarray(9)],
   new DataView(text.buffer, text.byteOffset, text.length), [new ArrayBuffer(0), text],
 ]) {
   const it = await library.read(source);
@@ -42,7 +42,8 @@ async function* faulty() {
 }
 await assert.rejects(library.read(faulty()), (error) => {
   assert(error instanceof Refused && error instanceof Error);
-  assert.deepEqual([error.number, error.refusal, error.place, error.line('f')], [9, 'NotANumber', 2n, 'f:2: 9 NotANumber']);
+  assert.deepEqual([error.number, error.refusal, error.place], [9, 'NotANumber', 2n]);
+  assert.equal(error.line('f'), 'f:2: 9 NotANumber');
   assert.equal(error.message, 'line 2: 9 NotANumber: A number field is no whole number in decimal digits.');
   return true;
 });
@@ -64,17 +65,20 @@ assert.equal(other.arcCount(1), 3n);
 assert.deepEqual([...roads.arcs(1, 1n)], [...roads.arcs()].slice(1));
 
 // Many rows and bytes, which come in several copies.
-const many = await library.read([Buffer.from('p sp 60000 60000\n'), ...Array.from({ length: 60000 }, (_, i) => Buffer.from(`a ${i + 1} 1 5\n`))]);
+const large = (head, row) => head + Array.from({ length: 60000 }, (_, i) => row(i + 1)).join('');
+const star = large('p sp 60000 60000\n', (i) => `a ${i} 1 5\n`);
+const many = await library.read([Buffer.from(star)]);
 assert.equal([...many.arcs()].length, 60000);
-assert.equal(canon(many).length, [...many.arcs()].reduce((sum, [tail]) => sum + `a ${tail} 1 5\n`.length, 'p sp 60000 60000\n'.length));
-const points = await library.read([Buffer.from(`p aux sp co 60000\n${Array.from({ length: 60000 }, (_, i) => `v ${i + 1} 0 -7\n`).join('')}`)]);
+assert.equal(canon(many), star);
+const points = await library.read([Buffer.from(large('p aux sp co 60000\n', (i) => `v ${i} 0 -7\n`))]);
 assert.deepEqual([...points.items()].at(-1), [60000n, 0n, -7n]);
 
 // Differences, with numbers of 128 bits.
 const most = 2n ** 63n - 1n;
 const dear = (cost) => [Buffer.from(`p min 1 1\na 1 1 ${most} ${most} ${cost}\n`)];
 const difference = await library.compare(dear(most), dear(-most));
-assert.deepEqual([difference.what, difference.amount, difference.left, difference.right], ['pair', most, most * most, -most * most]);
+const { what, amount, left, right } = difference;
+assert.deepEqual([what, amount, left, right], ['pair', most, most * most, -most * most]);
 assert.equal(verdict(difference), `differ pair 1 1 amount ${most} cost ${most * most} ${-most * most}`);
 assert.equal(verdict(roads.compare(one)), 'same');
 const sources = await library.read([Buffer.from('p aux sp ss 1\ns 99\n')]);
@@ -96,6 +100,12 @@ assert.throws(() => roads.misfit(one), { number: 40 });
 const second = await load();
 const stranger = await second.read(text);
 assert.throws(() => roads.compare(stranger), TypeError);
+
+// Modules of another version, and no module.
+const empty = Uint8Array.of(0, 97, 115, 109, 1, 0, 0, 0);
+await assert.rejects(made(empty), /another version of dnorm: it has no dnorm_begin/);
+await assert.rejects(made(Buffer.from('<!doctype html>')), WebAssembly.CompileError);
+await assert.rejects(made(Uint8Array.of(0x1f, 0x8b)), Error);
 
 // Memory that is freed is used again, also where nobody frees it.
 const before = library.calls.memory.buffer.byteLength;

@@ -1,5 +1,5 @@
-// Reads texts in modules whose memory ends at each size: each answer is the one with much memory, or that memory ran out,
-// and nothing traps. Prints how many answers are of each sort.
+// Reads texts in modules whose memory ends at each size: each answer is the one with much memory, or that memory ran
+// out, and nothing traps. Prints how many answers are of each sort.
 import { readFileSync } from 'node:fs';
 import { gunzipSync } from 'node:zlib';
 import { Refused, made } from '../../web/dnorm.mjs';
@@ -38,10 +38,11 @@ function limited(pages) {
 
 const rows = (count, row) => Array.from({ length: count }, (_, i) => row(i)).join('');
 const node = (i, count) => 1 + ((i * 7919) % count);
+const short = (i) => `a ${node(i, 2999)} ${node(i >> 2, 2999)} ${i % 1000}\n`;
 const arc = (i) => `a ${node(i, 1999)} ${node(i >> 3, 1999)} ${i % 3} ${3 + (i % 9)} ${i % 50}\n`;
 const TEXTS = {
-  sp: `p sp 3000 30000\n${rows(30000, (i) => `a ${node(i, 2999)} ${node(i >> 2, 2999)} ${i % 1000}\n`)}`,
-  max: `p max 3000 30000\nn 1 s\nn 2 t\n${rows(30000, (i) => `a ${node(i, 2999)} ${node(i >> 2, 2999)} ${i % 1000}\n`)}`,
+  sp: `p sp 3000 30000\n${rows(30000, short)}`,
+  max: `p max 3000 30000\nn 1 s\nn 2 t\n${rows(30000, short)}`,
   min: `p min 2000 30000\n${rows(30000, arc)}`,
   flows: `p min 9000 1\n${rows(9000, (i) => `n ${i + 1} ${i - 4000}\n`)}a 1 2 0 1 1\n`,
   co: `p aux sp co 9000\n${rows(9000, (i) => `v ${9000 - i} 1 2\n`)}`,
@@ -66,7 +67,8 @@ async function answers(library) {
     await ask(`${name} read`, async () => plain((one = await library.read(bytes(text))).facts()));
     if (!one) continue;
     for (const form of [1, 2]) await ask(`${name} canon ${form}`, () => Buffer.concat([...one.canon(form)]).toString());
-    await ask(`${name} compare`, async () => plain(await library.compare(bytes(text), bytes(text.replace(/1\n$/, '2\n')))));
+    const other = bytes(text.replace(/1\n$/, '2\n'));
+    await ask(`${name} compare`, async () => plain(await library.compare(bytes(text), other)));
     one.free();
   }
   await ask('a small text', async () => plain(await library.check(bytes('p sp 1 0\n'))));

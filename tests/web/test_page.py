@@ -14,6 +14,7 @@ from known import COSTS, ROADS
 from needs import pass_over
 from shared import ROOT, bytes_of, run, write
 
+pytestmark = [pytest.mark.whole, pytest.mark.xdist_group("page")]
 PAGES = [f"{ROOT}/web/out/dnorm.html", f"{ROOT}/released/dnorm.html"]
 # Where pictures of failures go.
 PICTURES = f"{ROOT}/out/pictures"

@@ -19,6 +19,7 @@ from needs import need, pass_over, seeds
 from shared import ROOT, Quick, pipe, run, said, text_of, write
 from texts import lines_of, made, spelled, spoilt
 
+pytestmark = pytest.mark.whole
 WEB, HERE = f"{ROOT}/web", f"{ROOT}/tests/web"
 SCRIPT = f"{WEB}/dnorm.mjs"
 MODULES = [f"{WEB}/out/dnorm.wasm.gz", f"{ROOT}/released/dnorm.wasm.gz"]
