@@ -120,11 +120,14 @@ class Place:
         self.put_module()
 
     def put_module(self) -> None:
-        """Puts the module and the page where tools/wasm makes them: what it has made here, or what is released."""
-        os.mkdir(f"{self.folder}/web/out")
+        """Puts the module and the page where tools/wasm makes them, and into released/: what it has made here, or what
+        is released."""
+        for it in ["web/out", "released"]:
+            os.makedirs(f"{self.folder}/{it}", exist_ok=True)
         for it in ["dnorm.wasm.gz", "dnorm.html"]:
             found = [at for at in [f"{ROOT}/web/out/{it}", f"{ROOT}/released/{it}"] if os.path.exists(at)]
-            write(f"{self.folder}/web/out/{it}", bytes_of(found[0]) if found else "")
+            for to in ["web/out", "released"]:
+                write(f"{self.folder}/{to}/{it}", bytes_of(found[0]) if found else "")
         for it in ["dnorm.wasm", "dn_c.a", "said"]:
             write(f"{self.folder}/web/out/{it}", f"{it}\n")
 
