@@ -442,23 +442,20 @@ function understood(words) {
 // Runs a command, and yields what it prints. Returns the exit status.
 class Command {
   constructor(library, process, crypto) {
-    Object.assign(this, { library, process, crypto, sum: '' });
+    Object.assign(this, { library, process, crypto });
   }
 
-  // Reads a file, or standard input. Notes the checksum of its bytes.
-  async read(file) {
-    const sum = this.crypto.createHash('sha256');
+  // Reads a file, or standard input. Each piece goes to `seen`.
+  async read(file, seen = () => {}) {
     const source = file === '-' ? this.process.stdin : await opened(file);
     const noted = async function* () {
       for await (const piece of source) {
-        sum.update(piece);
+        seen(piece);
         yield piece;
       }
     };
     try {
-      const instance = await this.library.read(noted());
-      this.sum = sum.digest('hex');
-      return instance;
+      return await this.library.read(noted());
     } catch (error) {
       if (error instanceof Refused) throw new Ended(error.line(file), error.number === 30 ? 4 : 2);
       // What Node, Deno or Bun says of a file has a code.
@@ -481,12 +478,13 @@ class Command {
   }
 
   async *check({ files: [file, companion] }) {
-    const instance = await this.read(file);
-    const { sum } = this;
+    const sum = this.crypto.createHash('sha256');
+    const instance = await this.read(file, (piece) => sum.update(piece));
+    const wanted = sum.digest('hex');
     const forms = [1, 2].filter((form) => {
       const canonical = this.crypto.createHash('sha256');
       for (const piece of this.written(instance, file, form)) canonical.update(piece);
-      return canonical.digest('hex') === sum;
+      return canonical.digest('hex') === wanted;
     });
     const lines = [`accepted ${instance.facts().kind}`];
     if (companion !== undefined) {
