@@ -157,7 +157,7 @@ def test_library() -> None:
 
 @pytest.mark.alone
 def test_cost(tested: str, folder: str) -> None:
-    """canon of 1,000,000 arcs takes at most five times the program's processor time."""
+    """canon of 1,000,000 arcs takes at most eight times the program's processor time: bench/README.md says how much."""
     arcs = (b"a %d %d %d\n" % (1 + i * 7919 % 99991, 1 + i * 31 % 99991, i % 997) for i in range(1_000_000))
     write("large", b"p sp 100000 1000000\n" + b"".join(arcs))
 
@@ -169,7 +169,7 @@ def test_cost(tested: str, folder: str) -> None:
 
     pairs = [(cost(["node", SCRIPT]), cost([tested])) for _ in range(5)]
     ratio = min(it for it, _ in pairs) / min(it for _, it in pairs)
-    assert ratio <= 5, f"{ratio:.2f} times"
+    assert ratio <= 8, f"{ratio:.2f} times"
 
 
 def heap(folder: str, name: str, text: str) -> list[Any]:
