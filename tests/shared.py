@@ -119,6 +119,9 @@ def source_of(place: str, tested: str, made: str = "") -> str:
         return tested
     if made and os.path.exists(f"{made}/{place}"):
         return f"{made}/{place}"
+    # What tools/wasm makes.
+    if place.startswith("released/dnorm.") and os.path.exists(module := f"{ROOT}/web/out/{os.path.basename(place)}"):
+        return module
     # What tools/c-library makes.
     return f"{ROOT}/c/out/{place}" if place.startswith(("include/", "lib/")) else f"{ROOT}/{place}"
 

@@ -5,11 +5,11 @@ import shutil
 from typing import NamedTuple
 
 from needs import leave_out
-from shared import ROOT, Answer, links_listed, listed, run, write
+from shared import ROOT, Answer, bytes_of, links_listed, listed, run, write
 
 OUT = "crates/dnorm/out"
 # What released/ has, besides its page.
-RELEASED = ["SHA256SUMS", "aarch64/dnorm.gz", "buildinfo"]
+RELEASED = ["SHA256SUMS", "aarch64/dnorm.gz", "buildinfo", "dnorm.html", "dnorm.wasm.gz"]
 RELEASED += [f"x86_64/{it}" for it in ["dnorm", "libdnorm.a.gz", "libdnorm.so.3.gz"]]
 # What tools/release runs on the program for aarch64.
 FOR_AARCH64 = "tests/program/test_aarch64.py"
@@ -19,6 +19,7 @@ SCRIPTS = {
     "tools/build": "",
     "tools/c-library": "",
     "tools/aarch64": f"[ -e {OUT}/aarch64/dnorm ]",
+    "tools/wasm": "",
     "tests/run": f'[ "$*" = "$PWD/{OUT}/aarch64/dnorm -- {FOR_AARCH64}" ] && [ "$CI" = true ]',
 }
 # What a scratch repository does not have of this one.
@@ -116,6 +117,19 @@ class Place:
         shutil.copy(tested, f"{folder}/{OUT}/dnorm")
         write(f"{folder}/{OUT}/built", run([f"{folder}/tools/source-sum", "--list", "program"]).out)
         write(f"{folder}/c/out/built", "")
+        self.put_module()
+
+    def put_module(self) -> None:
+        """Puts the module and the page where tools/wasm makes them, and into released/: what it has made here, or what
+        is released."""
+        for it in ["web/out", "released"]:
+            os.makedirs(f"{self.folder}/{it}", exist_ok=True)
+        for it in ["dnorm.wasm.gz", "dnorm.html"]:
+            found = [at for at in [f"{ROOT}/web/out/{it}", f"{ROOT}/released/{it}"] if os.path.exists(at)]
+            for to in ["web/out", "released"]:
+                write(f"{self.folder}/{to}/{it}", bytes_of(found[0]) if found else "")
+        for it in ["dnorm.wasm", "dn_c.a", "said"]:
+            write(f"{self.folder}/web/out/{it}", f"{it}\n")
 
     def git(self, *words: str) -> None:
         who = {f"GIT_{one}_{it}": value for one in ["AUTHOR", "COMMITTER"] for it, value in WHO.items()}
@@ -150,7 +164,12 @@ class Made:
 
     def files(self) -> list[str]:
         """Returns the names of all files but SHA256SUMS, sorted."""
-        own = [self.info, self.wheel, self.python_package, f"dnorm-{self.version}-objects.tar.gz"]
+        own = [
+            self.info,
+            self.wheel,
+            self.python_package,
+            *(f"dnorm-{self.version}{it}" for it in ["-objects.tar.gz", ".tgz"]),
+        ]
         return sorted([*own, *(it for port in self.ports for it in port.files)])
 
     def release(self, place: Place) -> Answer:
