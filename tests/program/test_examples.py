@@ -1,8 +1,8 @@
 """The examples in README.md and in the pages of docs/ for users: each block of commands that a block of output follows.
 Both streams together must be this output. The blocks of a section run in one shell, in a fresh folder that has
-examples/, the program as ./dnorm, ./dnorm-files, and for README.md share/conformance/, with what `./install` installs
-on its path; the shell is bash only if a block asks for it. Then the blocks of all sections of a page run in one bash. A
-block that begins with a comment with the name of a file is written to that file first.
+examples/, web/, the program as ./dnorm, ./dnorm-files, and for README.md share/conformance/, with what `./install`
+installs on its path; the shell is bash only if a block asks for it. Then the blocks of all sections of a page run in
+one bash. A block that begins with a comment with the name of a file is written to that file first.
 
 The recipes for a file have the status that the manual says for one that is refused or unreadable. Each text in
 examples/refused/ is refused as its name says, and the section of this refusal in docs/REFUSALS.md runs it."""
@@ -27,10 +27,9 @@ PAGES = [README, "docs/MANUAL.md", "docs/FILES.md", "docs/LIBRARY.md", REFUSALS]
 FENCED = re.compile(r"^```(\w*)\n((?:(?!```).*\n)*)```$", re.M)
 FILE = re.compile(r"(?:#!.*\n)?(?:#|//) ([\w-]+\.\w+)\n")
 # The tools that a plain system may lack, by the words that call them.
-NEEDS = {"git": "git", "pv": "pv", "c++": "c++"}
+NEEDS = {it: it for it in ["git", "pv", "c++", "cc", "rustc", "node"]}
 NEEDS |= {f"~/.local/lib/libdnorm.{it}": "libdnorm" for it in ["a", "so.3"]}
 NEEDS |= {"static=dnorm": "libdnorm", "~/.local/share/doc/dnorm/c/examples/least_cost.cc": "LEMON"}
-NEEDS |= {"cc": "cc", "rustc": "rustc"}
 # The modules of Python that a plain system may lack, by their words.
 MODULES = ["networkx", "scipy", "numpy"]
 NEEDS |= {it: it for it in MODULES}
@@ -134,7 +133,8 @@ class Examples:
             os.symlink(target, f"{self.folder}/home/.local/{to}")
         os.mkdir(f"{self.folder}/fresh")
         os.symlink(tested, f"{self.folder}/fresh/dnorm")
-        os.symlink(f"{ROOT}/dnorm-files", f"{self.folder}/fresh/dnorm-files")
+        for it in ["dnorm-files", "web"]:
+            os.symlink(f"{ROOT}/{it}", f"{self.folder}/fresh/{it}")
         shutil.copytree(f"{ROOT}/examples", f"{self.folder}/fresh/examples")
         if self.name == README:
             shutil.copytree(f"{ROOT}/share/conformance", f"{self.folder}/fresh/share/conformance")
