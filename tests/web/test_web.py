@@ -6,7 +6,6 @@ import json
 import os
 import random
 import re
-import resource
 import shutil
 import subprocess
 import sys
@@ -153,23 +152,6 @@ def test_memory(module: str) -> None:
 def test_library() -> None:
     """What a text may come from, readers in turns, instances that are freed or of two modules, and types of results."""
     assert run(["node", f"{HERE}/library.mjs"]) == said("done\n")
-
-
-@pytest.mark.alone
-def test_cost(tested: str, folder: str) -> None:
-    """canon of 1,000,000 arcs takes at most eight times the program's processor time: bench/README.md says how much."""
-    arcs = (b"a %d %d %d\n" % (1 + i * 7919 % 99991, 1 + i * 31 % 99991, i % 997) for i in range(1_000_000))
-    write("large", b"p sp 100000 1000000\n" + b"".join(arcs))
-
-    def cost(words: list[str]) -> float:
-        before = resource.getrusage(resource.RUSAGE_CHILDREN)
-        assert run([*words, "canon", "large"]).status == 0
-        after = resource.getrusage(resource.RUSAGE_CHILDREN)
-        return after.ru_utime + after.ru_stime - before.ru_utime - before.ru_stime
-
-    pairs = [(cost(["node", SCRIPT]), cost([tested])) for _ in range(5)]
-    ratio = min(it for it, _ in pairs) / min(it for _, it in pairs)
-    assert ratio <= 8, f"{ratio:.2f} times"
 
 
 def heap(folder: str, name: str, text: str) -> list[Any]:
