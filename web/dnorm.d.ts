@@ -50,7 +50,7 @@ export interface Difference {
   right: bigint | null;
 }
 
-/** A text is refused (1 to 21, 34), memory ran out (30), or an instance was freed (40). */
+/** A text is refused (1 to 21, 34), memory ran out (30), or an instance was freed or is not for a call (40). */
 export class Refused extends Error {
   readonly number: number;
   /** The name of the refusal, such as NodeOutOfRange. */

@@ -55,10 +55,10 @@ const PIECE = 1 << 20;
 const PLACE = 128;
 const BYTES = 256;
 
-/** A text is refused, or memory ran out (30). */
+/** A text is refused, memory ran out (30), or an instance is not for a call (40). */
 export class Refused extends Error {
   constructor(number, place = null) {
-    const [name, sentence] = REFUSALS[number] ?? ['WrongCall', 'The instance was freed.'];
+    const [name, sentence] = REFUSALS[number] ?? ['WrongCall', 'The instance was freed, or is not for this call.'];
     const where = typeof place === 'bigint' ? `line ${place}: ` : place === null ? '' : `${place}: `;
     super(`${where}${number} ${name}: ${sentence}`);
     Object.assign(this, { number, refusal: name, sentence, place });
@@ -98,7 +98,15 @@ async function* pieces(source) {
 
 function bytesOf(piece) {
   if (piece instanceof ArrayBuffer) return new Uint8Array(piece);
+  // A stream of strings has lost which bytes they were.
+  if (!ArrayBuffer.isView(piece)) throw new TypeError('a piece of a text is no bytes');
   return new Uint8Array(piece.buffer, piece.byteOffset, piece.byteLength);
+}
+
+// Returns a canonical form, which the module takes as a number of 8 bits.
+function formOf(form) {
+  if (form !== 1 && form !== 2) throw new RangeError(`a form is 1 or 2, and not ${form}`);
+  return form;
 }
 
 /** A module with its memory, in which instances are. */
@@ -237,7 +245,7 @@ export class Instance {
   /** The number of canonical arcs, or null if there are 2^64 or more, or no graph. */
   arcCount(form = 1) {
     const { library } = this;
-    library.calls.dnorm_arc_count(library.at, this.handle, form);
+    library.calls.dnorm_arc_count(library.at, this.handle, formOf(form));
     return library.byte(8) ? null : library.unsigned(0);
   }
 
@@ -245,7 +253,7 @@ export class Instance {
    *  the first `pairs` pairs are passed over. */
   arcs(form = 1, pairs = 0n) {
     const { kind } = this.facts();
-    return this.rows('dnorm_next', [form], 5, kind === 'min' ? 5 : 3, pairs);
+    return this.rows('dnorm_next', [formOf(form)], 5, kind === 'min' ? 5 : 3, pairs);
   }
 
   /** The items: [node, flow], [source, sink], [ID], [ID, ID] or [ID, x, y]. */
@@ -275,7 +283,7 @@ export class Instance {
     const { library } = this;
     const text = new Instance(library);
     try {
-      library.calls.dnorm_canon(library.at, this.handle, form, text.handle);
+      library.calls.dnorm_canon(library.at, this.handle, formOf(form), text.handle);
       library.fine();
       for (let from = 0n, count = PIECE; count === PIECE; from += BigInt(PIECE)) {
         library.calls.dnorm_text(library.at, text.handle, from, library.bytes, BigInt(PIECE));
@@ -409,6 +417,15 @@ class Ended extends Error {
     super(line);
     this.status = status;
   }
+}
+
+// Whether words call for help, as those of the program do: for that of a command, which is the same here.
+function asksForHelp([name, ...rest]) {
+  const options = ['-h', '--help'];
+  if (name === 'help') return rest.length < 2 && rest.every((it) => Object.hasOwn(COMMANDS, it));
+  const end = rest.indexOf('--');
+  const words = end < 0 ? rest : rest.slice(0, end);
+  return options.includes(name) || (Object.hasOwn(COMMANDS, name ?? '') && words.some((it) => options.includes(it)));
 }
 
 // Returns the command, its files and the value of its option; a line of words that no command has ends the run.
@@ -553,7 +570,7 @@ async function main(words, process) {
     process.stdout.write(piece, (error) => (error ? reject(new Ended('out: 33 Write', 4)) : resolve()));
   });
   try {
-    if (['help', '-h', '--help'].includes(words[0])) {
+    if (asksForHelp(words)) {
       await write(HELP);
       return 0;
     }

@@ -3,7 +3,8 @@
 // are, one message for each step. It reads no file itself, since WebKit lets no worker of a page that is a file do so.
 // It is one script with the first part of dnorm.mjs.
 
-const CORNERS = 5000;
+// How many arcs of a pair are drawn.
+const DRAWN = 5000;
 // How many bytes of a refused line are shown.
 const SHOWN = 200;
 const PAUSE = 100;
@@ -60,7 +61,8 @@ async function readFile(name, index) {
   try {
     held[index] = await library.read(text(index), { progress });
   } catch (error) {
-    const shown = typeof error.place === 'bigint' ? await lineOf(index, error.place) : null;
+    // The file may have changed since, and is refused all the same.
+    const shown = typeof error.place === 'bigint' ? await lineOf(index, error.place).catch(() => null) : null;
     post('refused', { index, name, error: told(error), shown });
     return;
   }
@@ -69,7 +71,7 @@ async function readFile(name, index) {
   post('accepted', { index, name, facts, bytes, arcs });
 }
 
-// Returns the canonical arcs of a pair. The pairs are sorted.
+// Returns the first canonical arcs of a pair. The pairs are sorted.
 function arcsOf(instance, tail, head) {
   const isBefore = ([from, to]) => from < tail || (from === tail && to < head);
   let low = 0n;
@@ -81,15 +83,14 @@ function arcsOf(instance, tail, head) {
   }
   const found = [];
   for (const arc of instance.arcs(1, low)) {
-    if (arc[0] !== tail || arc[1] !== head || found.length === CORNERS) break;
+    if (arc[0] !== tail || arc[1] !== head || found.length === DRAWN) break;
     found.push(arc);
   }
   return found;
 }
 
-// Returns the corners of the least costs of a pair: behind the forced units come the arcs by rising cost.
-function curveOf(instance, tail, head) {
-  const arcs = arcsOf(instance, tail, head);
+// Returns the corners of the least costs of a pair by its arcs: behind the forced units come the others by rising cost.
+function curveOf(arcs) {
   let amount = arcs.reduce((sum, [, , low]) => sum + low, 0n);
   let cost = arcs.reduce((sum, [, , low, , each]) => sum + low * each, 0n);
   const corners = [[amount, cost]];
@@ -111,8 +112,9 @@ function compareBoth([left, right]) {
   const difference = left.compare(right);
   if (difference?.what === 'kind') [difference.left, difference.right] = kinds;
   const isCurve = difference?.what === 'pair' && difference.kind === 'min';
-  const curves = isCurve ? [left, right].map((it) => curveOf(it, difference.at, difference.to)) : null;
-  post('compared', { difference, curves });
+  const arcs = isCurve ? [left, right].map((it) => arcsOf(it, difference.at, difference.to)) : [];
+  const cut = arcs.some((it) => it.length === DRAWN) ? DRAWN : null;
+  post('compared', { difference, curves: isCurve ? arcs.map(curveOf) : null, cut });
 }
 
 async function run({ module, names }) {

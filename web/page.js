@@ -60,6 +60,7 @@ function busy(doing) {
 function start(chosen) {
   stop();
   files = chosen;
+  parts = [];
   element('answers').replaceChildren();
   element('copying').hidden = true;
   if (files.length === 0) return;
@@ -68,9 +69,12 @@ function start(chosen) {
     return;
   }
   busy(`Reading ${files[0].name}`);
-  worker = new Worker(job);
-  worker.onmessage = ({ data }) => SHOW[data.what](data);
-  worker.onerror = (event) => stop(`The worker of this page failed: ${event.message ?? 'it did not start'}`);
+  const own = new Worker(job);
+  worker = own;
+  // What a worker said that was ended meanwhile is of other files.
+  own.onmessage = ({ data }) => own === worker && SHOW[data.what](data);
+  own.onerror = ({ message = 'it did not start' }) =>
+    own === worker && stop(`The worker of this page failed: ${message}`);
   worker.postMessage({ module: packed, names: files.map((it) => it.name) });
 }
 
@@ -142,7 +146,6 @@ const SHOW = {
   accepted({ index, name, facts, bytes, arcs }) {
     const ask = (form) => () => {
       busy(`Writing the canonical text of ${name}`);
-      parts = [];
       worker.postMessage({ index, form });
     };
     const button = (form, label) => make('button', { onclick: ask(form) }, label);
@@ -174,7 +177,7 @@ const SHOW = {
     card('bad wide', 'The companion does not fit', paragraph(why));
   },
 
-  compared({ difference, curves }) {
+  compared({ difference, curves, cut }) {
     if (!difference) {
       card('good wide', 'Both files pose the same problem');
       return;
@@ -182,7 +185,8 @@ const SHOW = {
     const [said, left, right] = words(difference);
     const values = left === undefined ? null : list([['Left', left], ['Right', right]]);
     const pictures = curves ? costs(difference, curves) : [];
-    card('bad wide', 'The files differ', paragraph(said), values, ...pictures);
+    const more = cut ? paragraph(`Of a side, only the first ${grouped(cut)} canonical arcs are drawn.`) : null;
+    card('bad wide', 'The files differ', paragraph(said), values, more, ...pictures);
   },
 
   part({ piece }) {
@@ -201,6 +205,7 @@ const SHOW = {
   },
 
   failed({ error: { number, refusal, sentence, message } }) {
+    parts = [];
     const why = number ? `${sentence} (${number} ${refusal})` : `The page failed: ${message}`;
     card('bad', why, number === 30 ? paragraph(MEMORY) : null);
   },

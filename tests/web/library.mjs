@@ -49,6 +49,9 @@ await assert.rejects(library.read(faulty()), (error) => {
 });
 assert.equal(taken, 2);
 await assert.rejects(library.read('missing'), { code: 'ENOENT' });
+// Strings have lost which bytes they were.
+await assert.rejects(library.read(createReadStream(PATH, 'utf8')), TypeError);
+await assert.rejects(library.read([text, undefined]), TypeError);
 await assert.rejects(library.check([Buffer.from('c\n')]), { number: 18, place: 'end' });
 
 // Readers in turns, and rows in turns with other calls.
@@ -82,6 +85,12 @@ assert.deepEqual([what, amount, left, right], ['pair', most, most * most, -most 
 assert.equal(verdict(difference), `differ pair 1 1 amount ${most} cost ${most * most} ${-most * most}`);
 assert.equal(verdict(roads.compare(one)), 'same');
 const sources = await library.read([Buffer.from('p aux sp ss 1\ns 99\n')]);
+assert.throws(() => [...sources.arcs()], { number: 40 });
+for (const form of [0, 3, 257, '1', 1n, null]) {
+  assert.throws(() => canon(roads, form), RangeError);
+  assert.throws(() => roads.arcs(form), RangeError);
+  assert.throws(() => roads.arcCount(form), RangeError);
+}
 assert.deepEqual(roads.misfit(sources), { number: 35, node: 99n });
 assert.deepEqual(sources.misfit(roads), { number: 36, node: null });
 const pieces = [];

@@ -32,6 +32,11 @@ worker.onmessage = (event) => {{ document.body.dataset.leak = event.data; }};"""
 NAMELESS = """return [...document.querySelectorAll('button, a, input, svg, progress, textarea')].filter((it) =>
   !(it.textContent.trim() || it.getAttribute('aria-label') || it.getAttribute('aria-labelledby')))
   .map((it) => it.outerHTML)"""
+# Asks for the canonical texts of two files.
+CLICKS = """const [first, second] = [0, 1].map((it) => element(`canon${it}`).previousSibling.firstChild);
+first.click();
+let count = 0;
+const clicking = setInterval(() => { second.click(); if (++count === 20) clearInterval(clicking); }, 2);"""
 FAR, MOST = 2**62, 2**63 - 1
 MIN = "p min 2 3\na 1 2 1 {} -{}\na 1 2 0 5 3\na 1 2 5 {} {}\n"
 # Files by their names, and what the page says of them.
@@ -170,6 +175,26 @@ def test_canonical_text(page: Page, tested: str, folder: str) -> None:
             wanted = run([tested, "canon", f"--form={form}", "costs.min"]).out
             page.until(f"return asText().includes('SHA-256: {hashlib.sha256(wanted).hexdigest()}')")
             assert f"Size: {len(wanted)} bytes" in page.answer()
+
+
+def test_two_texts(page: Page, tested: str, folder: str) -> None:
+    """The canonical texts of two files: the second one is asked for again and again while the first one comes."""
+    arcs = [
+        (f"{it}.gr", "p sp 900000 300000\n" + "".join(f"a {i} 1 {it}\n" for i in range(1, 300_001))) for it in (7, 8)
+    ]
+    assert "The files differ" in page.give(arcs)
+    page.browser.js(CLICKS)
+    for it in range(2):
+        write("given", arcs[it][1])
+        wanted = hashlib.sha256(run([tested, "canon", "given"]).out).hexdigest()
+        page.until(f"return element('canon{it}').textContent.includes('{wanted}')")
+
+
+def test_many_costs(page: Page) -> None:
+    """A pair with more arcs than are drawn, which differs in the last one."""
+    arcs = "".join(f"a 1 2 0 1 {it}\n" for it in range(6000))
+    found = page.give([(f"{it}.min", f"p min 2 6001\n{arcs}a 1 2 0 1 {it}\n") for it in (7000, 8000)])
+    assert "at amount 6001" in found and "only the first 5000 canonical arcs are drawn" in found
 
 
 def test_large(page: Page, folder: str) -> None:

@@ -102,6 +102,9 @@ def test_as_program(folder: str, row: Row) -> None:
         ("check", "dnorm: bad command line"),
         ("compare g", "dnorm: bad command line"),
         ("toString g", "dnorm: bad command line"),
+        ("toString -h", "dnorm: bad command line"),
+        ("help nothing", "dnorm: bad command line"),
+        ("canon -- -h g", "dnorm: bad command line"),
     ],
 )
 def test_refused_words(tested: str, folder: str, words: str, err: str) -> None:
@@ -116,7 +119,9 @@ def test_other_words(tested: str, folder: str) -> None:
     write("-g", ROADS)
     assert run(["node", SCRIPT, "canon", "--", "-g"]) == said(ROADS_CANON)
     assert run(["node", SCRIPT, "--version"]) == run([tested, "--version"])
-    assert b"Usage: dnorm.mjs canon" in run(["node", SCRIPT, "help"]).out
+    for words in ["help", "help canon", "-h", "canon --help", "check x -h", "compare -h x"]:
+        found = run(["node", SCRIPT, *words.split()])
+        assert (b"Usage: dnorm.mjs canon" in found.out, found.err, found.status) == (True, b"", 0), words
     if os.path.exists("/dev/full"):
         line = f"exec node {SCRIPT} canon -- -g > /dev/full"
         assert run(["bash", "-c", line]) == said(b"", "out: 33 Write\n", 4)
