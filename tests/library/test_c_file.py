@@ -1,6 +1,6 @@
 """What makes the library for C one C file. Operations at their borders, and random functions, have the answers of the
-same module in Node, under each compiler. Mistakes in what makes the file are found so, and a module that has what is not
-known is refused."""
+same module in Node, under each compiler. Mistakes in what makes the file are found so, and a module with anything that
+is not known is refused."""
 
 import functools
 import os
@@ -10,7 +10,7 @@ import sys
 
 import assembled
 import pytest
-from needs import leave_out, need, pass_over
+from needs import need
 from shared import ROOT, run, text_of, write
 
 pytestmark = pytest.mark.whole
@@ -29,8 +29,6 @@ SANITIZERS = ["-g", "-fsanitize=address,undefined", "-fno-sanitize-recover=all"]
 # Compilers with their options. With __TINYC__, gcc takes what is for compilers that lack its builtins.
 COMPILERS = [["gcc", "-O0"], ["gcc", "-O2"], ["gcc", "-O1", "-D__TINYC__"], ["clang", "-O2"], ["tcc"]]
 COMPILERS += [["gcc", "-O1", *SANITIZERS]]
-# Tools that tools/setup does not install.
-OTHERS = ["clang", "tcc"]
 # Mistakes by the file: an old text, a new one, and options of gcc.
 PLANTED: dict[str, list[tuple[str, str, list[str]]]] = {
     "tools/wasm_to_c.py": [
@@ -106,11 +104,6 @@ STOPS: list[tuple[str, bytes, bytes, dict[str, bytes]]] = [
 ]
 
 
-def need_compiler(name: str) -> None:
-    if not shutil.which(name):
-        (pass_over if name in OTHERS else leave_out)(name)
-
-
 class Assembled:
     """A module of random functions in a folder, with the numbers that they are called with."""
 
@@ -169,7 +162,7 @@ def some_functions(tmp_path_factory: pytest.TempPathFactory) -> Assembled:
 @pytest.mark.parametrize("words", COMPILERS, ids=" ".join)
 def test_operations(random_functions: Assembled, folder: str, words: list[str]) -> None:
     """Operations on numbers at their borders, and random functions, give what Node's engine gives."""
-    need_compiler(words[0])
+    need(words[0])
     assert random_functions.make(ROOT, folder) == b""
     assert random_functions.by_c(folder, *words) == random_functions.by_node
 
