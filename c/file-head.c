@@ -1,5 +1,5 @@
-/* libdnorm: the library for C of dnorm @VERSION@ as one file, for any system that is little endian, has pointers of 64
-   bits and a compiler for C99. dnorm.h, which lies beside it, says what its functions do.
+/* libdnorm: the library for C of dnorm as one file, for any system that is little endian, has pointers of 64 bits and a
+   compiler for C99. dnorm.h, which lies beside it, says what its functions do.
 
        cc -O2 -c libdnorm.c
 
@@ -20,6 +20,9 @@
 #endif
 #include <stdlib.h>
 #include <string.h>
+#if DNORM_ABI != 3
+#error "this dnorm.h is of another version than libdnorm.c"
+#endif
 
 #undef dnorm_feed
 #undef dnorm_lines
