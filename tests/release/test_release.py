@@ -138,7 +138,8 @@ def test_c_file(made: Made, two: Place, folder: str) -> None:
         ["cmake", "--install", "build", "--prefix", "by-cmake"],
     ]:
         assert run(words).status == 0, words
-    for it, more in {"made": ["lib/pkgconfig/dnorm.pc"], "by-cmake": []}.items():
+    places: dict[str, list[str]] = {"made": ["lib/pkgconfig/dnorm.pc"], "by-cmake": []}
+    for it, more in places.items():
         assert sorted(files_of(all_below(it))) == sorted(["bin/dnorm", *headers, "lib/libdnorm.a", *more])
         assert run([f"{it}/bin/dnorm", "--version"]).out.startswith(f"dnorm {made.version}\n".encode())
     assert f"Version: {made.version}\n" in text_of("made/lib/pkgconfig/dnorm.pc")
