@@ -235,7 +235,8 @@ def test_as_library(at_length: str, folder: str) -> None:
     ]:
         assert run(line, limit=None) == said()
     shutil.move("again.a", f"{prefix}/lib/libdnorm.a")
-    passes(f"{ROOT}/dnorm", "library", f"--ignore={HERE}/test_c_program.py", DNORM_TESTED_PREFIX=prefix)
+    others = [f"--ignore={HERE}/test_c_{it}.py" for it in ("file", "program")]
+    passes(f"{ROOT}/dnorm", "library", *others, DNORM_TESTED_PREFIX=prefix)
 
 
 def passes(program: str, name: str, *more: str, **own: str) -> None:
