@@ -47,7 +47,7 @@ DN_ASSERT((s8)(u32)0x180 == -128 && (s64)(U64(1) << 63) < 0 && (s32)-2 >> 1 == -
 
 /* The largest frame of the module has 9,552 bytes. */
 #ifndef DN_STACK
-#define DN_STACK 16384
+#define DN_STACK 12288
 #endif
 
 /* What a call of the library has beside its arguments. */

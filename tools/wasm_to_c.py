@@ -126,9 +126,8 @@ class Body:
         self.dead = 0
         # The variables of the operand stack with their types, and which variables are read.
         self.places, self.read = dict[str, str](), set[str]()
-        # The locals that are pointers to the module's stack; whether such a pointer is checked, and set.
+        # The locals that are pointers to the module's stack.
         self.pointers = set[str]()
-        self.is_checked = self.is_set = False
         self.steps: dict[int, Callable[[Instruction], None]] = {
             op.UNREACHABLE: lambda _: self.leave("DN_TRAP();"),
             op.NOP: lambda _: None,
@@ -377,13 +376,18 @@ class Body:
         operation = op.NUMERIC[it.number]
         given = [self.pop(kind) for kind in reversed(operation.operands)][::-1]
         if operation.name == "i64.lt_s" and given[0].is_pointer and given[1].constant == LEAST_POINTER:
-            self.is_checked = True
             self.push(Value(f"(u32)DN_BELOW({self.of(given[0])})", "i32", given[0].uses | {"c"}))
             return
         text = operation.text.format(*(value.text for value in given))
-        is_pointer = operation.name in ("i64.add", "i64.sub") and given[0].is_pointer and given[1].constant is not None
         uses = frozenset[str]().union(*(value.uses for value in given))
-        self.push(Value(text, operation.result, uses, is_pointer=is_pointer), is_now=it.number in op.TRAPPING)
+        number = given[1].constant if operation.name in ("i64.add", "i64.sub") and given[0].is_pointer else None
+        made = Value(text, operation.result, uses, is_pointer=number is not None)
+        is_frame = number is not None and (number > 0) == (operation.name == "i64.sub")
+        self.push(made, is_now=is_frame or it.number in op.TRAPPING)
+        if is_frame:
+            # The kit may write into a frame before it checks that there is room.
+            self.read.add("c")
+            self.say(f"if (DN_BELOW({self.of(self.stack[-1])})) DN_TRAP();")
 
     def get_global(self, it: Instruction) -> None:
         index = self.changing(it)
@@ -395,10 +399,8 @@ class Body:
         value = self.pop(CHANGING[index])
         self.read.add("c")
         self.say(f"c->g{index} = {self.of(value)};")
-        if index == STACK_POINTER:
-            self.is_set = True
-            if not value.is_pointer:
-                stop("the pointer to the module's stack is set to something else")
+        if index == STACK_POINTER and not value.is_pointer:
+            stop("the pointer to the module's stack is set to something else")
 
     def changing(self, it: Instruction) -> int:
         """Returns the index of a global that changes."""
@@ -478,8 +480,8 @@ def functions(module: Module, section: Bytes) -> str:
             if not body.frames:
                 stop("instructions behind the end of a function")
             body.step(it)
-        if body.frames or body.is_set and not body.is_checked:
-            stop(f"the function {index} has no end, or does not check the pointer to its stack")
+        if body.frames:
+            stop(f"the function {index} has no end")
         parts.append(f"{head(module, index)} {{\n{body.text()}}}\n")
     if code.used != {*module.in_code}:
         stop("relocations that no instruction has")

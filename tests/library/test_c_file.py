@@ -38,7 +38,7 @@ PLANTED: dict[str, list[tuple[str, str, list[str]]]] = {
         ("self.keep_all()\n        self.labels", "self.labels", []),
         # What reads memory, may trap or changes is computed at once.
         ("access.kind), is_now=True", "access.kind)", []),
-        ("is_now=it.number in op.TRAPPING", "is_now=False", []),
+        ("is_frame or it.number in op.TRAPPING", "is_frame", []),
         ("index == STACK_POINTER), is_now=True", "index == STACK_POINTER)", []),
         # Branches, tables, halves of an `if`, and what cannot be reached.
         ('before = f"{name} = {self.of(value)}; "', 'before = ""', []),
@@ -51,7 +51,7 @@ PLANTED: dict[str, list[tuple[str, str, list[str]]]] = {
         ("&dn_data + {offset}", "&dn_data + {offset + 8}", []),
         ("{given} + {offset}u", "{given}", []),
         ('"u" if align < size', '"" if align < size', SANITIZERS),
-        ("DN_BELOW({self.of(given[0])})", "DN_BELOW(c->g0)", []),
+        ("if (DN_BELOW({self.of(self.stack[-1])})) DN_TRAP();", ";", []),
     ],
     "tools/wasm_operations.py": [
         ("i64      i32  (u32){0}\n        AC", "i64      i32  {0}\n        AC", []),
@@ -95,7 +95,6 @@ STOPS: list[tuple[str, bytes, bytes, dict[str, bytes]]] = [
     ("an instruction 0xfc08", b"\xfc\x0b\0", b"\xfc\x08\0", {}),
     ("memory.copy or memory.fill of another memory", b"\xfc\x0b\0", b"\xfc\x0b\1", {}),
     ("the pointer to the module's stack is set to something else", b"\x20\5\x24\0", b"\x20\1\x24\0", {}),
-    ("the function 68 has no end, or does not check the pointer to its stack", b"\x42\x10\x53", b"\x42\x18\x53", {}),
     ("reloc.CODE has a relocation of the kind 3", b"", b"", {"in_code": assembled.relocations("CODE", 6, [(3, 1)])}),
     ("relocations that no instruction has", b"", b"", {"in_code": assembled.relocations("CODE", 6, [(7, 1)])}),
     ("reloc.CODE is about another section", b"", b"", {"in_code": assembled.relocations("CODE", 5, [])}),

@@ -5,16 +5,20 @@ the program, under each compiler, also for other processors and for Windows, as 
 If the program under test is one of c/dnorm.c, the program's own tests run on it as well, and tests/library over
 libraries of the C file beside it."""
 
+import json
 import os
+import random
 import re
 import shutil
+import subprocess
 import sys
 
 import pytest
 from known import ROADS, ROADS_CANON, rows
 from needs import need, pass_over
-from shared import ROOT, Answer, Words, run, said, text_of, write
+from shared import ROOT, Answer, Words, pipe, run, said, text_of, write
 from test_c_file import HERE, SANITIZERS
+from texts import lines_of, made, spelled, spoilt
 
 from dnorm.library import ABI
 
@@ -38,6 +42,8 @@ BUILDS: dict[str, tuple[list[str], list[str], int]] = {
     "riscv64": (["riscv64-linux-gnu-gcc", "-O0", "-static"], ["qemu-riscv64"], 10),
     "Windows": (["x86_64-w64-mingw32-gcc", "-O0", "-municode"], [WINE], 40),
 }
+# Random texts, and their kinds.
+RANDOM, KINDS = 200, ["min", "max", "sp", "ss", "p2p", "co"]
 # Those on which the conformance suite runs, unless all is tested at length.
 SUITE = ["gcc -O2"]
 # The names that a symbol table exports, and sections of variables with their sizes, unless these are 0.
@@ -178,6 +184,25 @@ def files(program: Program) -> None:
         assert program.run(["canon", name]) == said(ROADS_CANON)
 
 
+def test_as_module(folder: str) -> None:
+    """On random texts, the module in Node and the C file have the same answers."""
+    need("node")
+    program, chance = Program(folder, "gcc -O0", False), random.Random(1)
+    words = ["node", f"{ROOT}/tests/web/adapter.mjs"]
+    with subprocess.Popen(words, stdin=subprocess.PIPE, stdout=subprocess.PIPE) as node:
+        write("other", ROADS)
+        for i in range(RANDOM):
+            lines = lines_of(chance, made(chance, KINDS[i % 6], i % 4 == 0))
+            write("other" if i % 2 else "text", spelled(chance, spoilt(chance, lines) if i % 3 == 0 else lines))
+            for it in ["canon --form 1 text", "canon --form 2 other", "show text", "compare text other"]:
+                asked, answers = pipe(node.stdin), pipe(node.stdout)
+                asked.write(it.replace(" ", "\t").encode() + b"\n")
+                asked.flush()
+                found, line = program.run(it.split()), answers.readline().decode()
+                told = json.loads(line) if line.startswith('"') else line
+                assert (found.out + found.err).decode() == told, f"{it} of text {i}"
+
+
 @pytest.fixture
 def at_length(tested: str) -> str:
     if not is_of_c(tested):
@@ -210,7 +235,11 @@ def test_as_library(at_length: str, folder: str) -> None:
     ]:
         assert run(line, limit=None) == said()
     shutil.move("again.a", f"{prefix}/lib/libdnorm.a")
-    passes(f"{ROOT}/dnorm", "library", f"--ignore={HERE}/test_c_program.py", DNORM_TESTED_PREFIX=prefix)
+    # As in a clone, whose libraries the tests expect, this is no link.
+    os.remove(f"{prefix}/lib/libdnorm.so")
+    shutil.copy(shared, f"{prefix}/lib/libdnorm.so")
+    others = [f"--ignore={HERE}/test_c_{it}.py" for it in ("file", "program")]
+    passes(f"{ROOT}/dnorm", "library", *others, DNORM_TESTED_PREFIX=prefix)
 
 
 def passes(program: str, name: str, *more: str, **own: str) -> None:
