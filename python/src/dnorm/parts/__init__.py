@@ -1,1 +1,0 @@
-"""Canonical texts of graphs that are larger than memory, made in parts: `canon-in-parts`."""
