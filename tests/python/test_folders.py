@@ -1,11 +1,10 @@
 """Tests `python3 -m dnorm`: its lines, reports and exit statuses, manifests, groups of files of one problem, odd names,
-2,000 files in one call, the progress bar, signals, and streams that fail."""
+2,000 files in one call, signals, and streams that fail."""
 
 import contextlib
 import ctypes
 import json
 import os
-import re
 import signal
 import subprocess
 import sys
@@ -106,11 +105,9 @@ COMMANDS = ["check", "manifest", "same", "list", "compare"]
 # Numbers of Linux.
 PR_CAPBSET_DROP, CAP_DAC_OVERRIDE, CAP_DAC_READ_SEARCH = 24, 1, 2
 # Arguments that are refused.
-NO_SECONDS = ["inf", "nan", "-1", "-inf", "1e400", "1000000001", "x", "''"]
 WRONG = [
     *["", "x", "check", "check --jobs 0 set", "check --jobs x set", "check --jobs", "check --js set"],
-    *["check --form 2 set", "check --junit", "check --timeout 0 set", "check --json --output-format github set"],
-    *[f"{it} --timeout {seconds} set" for it in ("check", "list", "compare set") for seconds in NO_SECONDS],
+    *["check --form 2 set", "check --junit", "check --json --output-format github set"],
     *[f"check --jobs {it} set" for it in ("nan", "-1", "1.5", "1e3")],
     *["check --output-format xml set", "check --csv set", "check --files0-from", "check --files0-from - -"],
     *["check --staged=x set", "check --staged -q", "check --incremental x set", "manifest --staged"],
@@ -329,22 +326,6 @@ def on_terminal(*words: str) -> tuple[str, int]:
             told += piece
     os.close(upper)
     return told.decode().replace("\r\n", "\n"), process.wait(LIMIT)
-
-
-def test_progress() -> None:
-    """The progress bar, which is drawn on a terminal only, and its removal before each line."""
-    slow = fake("slow", "sleep 0.3; cat > /dev/null; echo accepted sp; echo forms 1")
-    names = [f"{it}.gr" for it in range(4)]
-    make(dict.fromkeys(names, ROADS))
-    told, status = on_terminal("check", "--jobs", "1", "--program", slow, *names)
-    assert status == 0, "the status on a terminal"
-    bars = re.findall(r"\r\[(#*)\.*\] (\d) of 4, \d+ %", told)
-    shares = [int(it) for it in re.findall(r"of 4, (\d+) %", told)]
-    assert shares == sorted(shares) and shares[:1] < [50] and shares[-1:] > [50], f"shares rise: {shares}"
-    assert {len(it) for it, _ in bars} == {30 * int(at) // 4 for _, at in bars}, "bars on a terminal"
-    assert bars, "there are bars on a terminal"
-    wanted = [*(f"{it}: accepted sp" for it in names), "4 accepted, 0 refused, 0 failed", ""]
-    assert [it.rpartition("\r")[2] for it in told.split("\n")] == wanted, "lines on a terminal"
 
 
 def test_together() -> None:

@@ -11,7 +11,6 @@ import random
 import shutil
 import signal
 import threading
-import types
 from collections import Counter
 from collections.abc import Callable
 from concurrent.futures import ThreadPoolExecutor
@@ -27,7 +26,7 @@ from texts import lines_of, made, spelled
 
 import dnorm
 import dnorm.library
-import dnorm.limits
+import dnorm.summary
 from dnorm.program import children
 
 pytestmark = [*READS, pytest.mark.parametrize("reader", ["library"], indirect=True)]
@@ -149,9 +148,9 @@ def test_others(tested: str) -> None:
         assert is_told, f"the library {name} by its name: {found}"
     found = with_environment(lambda: dnorm.read(ROADS), DNORM_LIBRARY="/none")
     assert found.startswith("NoProgram: /none: cannot be run ($DNORM_LIBRARY names it, "), f"no library: {found}"
-    slow = fake("slow", "exec sleep 60")
-    found = with_environment(lambda: dnorm.read(ROADS, program=slow, timeout=0.3), DNORM_LIBRARY=LIBRARY)
-    assert found == "TimedOut: -: took more than 0.3 seconds", "an argument is stronger"
+    dies = fake("dies", "kill -9 $$")
+    found = with_environment(lambda: dnorm.read(ROADS, program=dies), DNORM_LIBRARY=LIBRARY)
+    assert found == "Killed: -: dnorm was ended by signal 9 (SIGKILL)", "an argument is stronger"
 
 
 def test_same_checks() -> None:
@@ -175,27 +174,19 @@ def test_same_checks() -> None:
 
 
 def test_in_rooms() -> None:
-    """Columns are copied whole in rooms of several sizes, and that after each room it is seen whether the
-    time is over: looks at the clock are counted."""
+    """Columns are copied whole in rooms of several sizes."""
     os.environ["DNORM_LIBRARY"] = LIBRARY
     texts = {
         b"p sp 1000 1000\n" + b"".join(b"a %d 1 7\n" % it for it in range(1, 1001)): 1000,
         b"p aux sp co 1000\n" + b"".join(b"v %d 1 7\n" % it for it in range(1, 1001)): 1000,
         b"p min 2 300\n" + b"".join(b"a 1 2 0 1 %d\n" % it for it in range(300)): 300,
     }
-    kept, names = dnorm.library.ROOM, vars(dnorm.limits)
-    clock = names["time"]
+    kept = dnorm.library.ROOM
     for text, count in texts.items():
-        whole, looks = dnorm.read(text), set()
+        whole = dnorm.read(text)
         for room in [1, 7, 300, 1000, 1001]:
             dnorm.library.ROOM = room
             assert dnorm.read(text) == whole, f"{count} rows in rooms of {room}"
-            clock_looks = itertools.count()
-            names["time"] = types.SimpleNamespace(monotonic=clock_looks.__next__)
-            dnorm.read(text, timeout=9999)
-            looks.add(next(clock_looks) - -(-count // room))
-            names["time"] = clock
-        assert len(looks) == 1, f"looks at the clock beside one a room, {whole.kind}"
     dnorm.library.ROOM = kept
 
 
@@ -235,7 +226,7 @@ def test_at_once(monkeypatch: pytest.MonkeyPatch) -> None:
         return wanted.wait(LIMIT)
 
     def both(one: Callable[[], object], other: Callable[[], object]) -> str:
-        return told(lambda: dnorm.limits.at_once(one, other, wanted.set))
+        return told(lambda: dnorm.summary.at_once(one, other, wanted.set))
 
     def not_started(_: threading.Thread) -> None:
         raise RuntimeError("can't start new thread")

@@ -71,9 +71,9 @@ class Meanwhile:
         setattr(dnorm.files, "opened", self._opened)
         setattr(dnorm.files, "mark_of", self._mark_of)
 
-    def _open(self, path: Any, limit: Any) -> Any:
+    def _open(self, path: Any) -> Any:
         self.counts[path] = self.counts.get(path, 0) + 1
-        return self._opened(path, limit)
+        return self._opened(path)
 
     def _mark(self, file: Any) -> Any:
         found = self._mark_of(file)
@@ -83,7 +83,7 @@ class Meanwhile:
 
 
 def list_of(name: str) -> Listed:
-    return listed(name, 1, None, library_of(None), None)
+    return listed(name, 1, None, library_of(None))
 
 
 CALLS: dict[str, Callable[[], object]] = {
@@ -161,7 +161,7 @@ for kind in LIMITS:
             open("left", "wb").write(texts[0])
             try:
                 found = dnorm.differences(*texts), dnorm.differences(*texts, 2)
-                print([vars(it) for it in found], listed("left", 2, None, library_of(None), None))
+                print([vars(it) for it in found], listed("left", 2, None, library_of(None)))
             except dnorm.Refused as error:
                 print(error)
 """

@@ -13,8 +13,7 @@ program reads it, also one that ends in `.zst` if Python or the module `zstandar
 `write` writes what `read` returns, and what `from_arrays`, `from_networkx` and `from_scipy` make; such an instance is a
 file as well. The keyword `program` says where the program is: by default `$DNORM` or, if that is not set, the one that
 pip installed with this package, or else the first `dnorm` on `PATH`. `read` and `differences` use the library for C in
-its place where that is beside it, unless `$DNORM_LIBRARY` is `none`. With the keyword `timeout`, a call that takes more
-seconds raises `TimedOut`.
+its place where that is beside it, unless `$DNORM_LIBRARY` is `none`.
 
 A text that the program refuses raises `Refused`, and any other failure another `DnormError`. If reading a text fails,
 or a compressed file is corrupt, no call returns an answer for it.
@@ -25,7 +24,7 @@ from . import alone  # noqa: F401
 from .answers import Checked, Difference, Same
 from .calls import canon, canon_to, check, checksum, compare, write
 from .columns import Column
-from .errors import DnormError, Endless, Killed, Memory, NoProgram, Read, Refused, TimedOut, Unexpected, Write
+from .errors import DnormError, Endless, Killed, Memory, NoProgram, Read, Refused, Unexpected, Write
 from .files import File, Readable, Target, Writable
 from .instances import Co, Graph, Instance, Max, Min, P2p, Sp, Ss, Star, from_arrays
 from .library import find_library
@@ -43,7 +42,7 @@ __version__ = "3.0.0.dev0"
 __all__ = [
     "REFUSALS", "ArcLines", "Checked", "Co", "Column", "Difference", "Differences", "DnormError", "Endless", "File",
     "Graph", "Instance", "Killed", "Max", "Memory", "Min", "NoProgram", "P2p", "PairDifference", "Read", "Readable",
-    "Refused", "Same", "Sp", "Ss", "Star", "Target", "TimedOut", "Unexpected", "Writable", "Write", "canon",
+    "Refused", "Same", "Sp", "Ss", "Star", "Target", "Unexpected", "Writable", "Write", "canon",
     "canon_to", "check", "checksum", "compare", "differences", "find_library", "find_program", "from_arrays",
     "from_networkx", "from_scipy", "read", "version", "write",
 ]  # fmt: skip

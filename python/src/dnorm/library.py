@@ -16,7 +16,6 @@ from .answers import AnyDifference, Difference, Same
 from .columns import column
 from .errors import DnormError, Endless, Memory, NoProgram, Refused
 from .files import Text
-from .limits import Lease
 from .program import Program, children, command, script_folders, unexpected, with_cause
 from .refusals import REFUSALS
 
@@ -34,8 +33,7 @@ WHAT = ["same", "kind", "nodes", "supply", "source", "sink", "pair", "items", "i
 OF_PAIR = {"sp": "length", "max": "capacity", "min": "cost"}
 # Some codes, and the place of a status that has a line.
 FINE, MEMORY, NOT_IN_GRAPH, AT_LINE = 0, 30, 35, 1
-# How many arcs, items or arc lines, and how many bytes, are copied at a time. Between two calls it is seen whether the
-# time is over.
+# How many arcs, items or arc lines, and how many bytes, are copied at a time.
 ROOM, BYTES = 1 << 14, 1 << 16
 # A text of so many bytes has no end, as the program says it.
 ENDLESS = 1 << 40
@@ -149,10 +147,10 @@ def find_library(program: Program = None) -> Optional[str]:
 
 class Held:
     """An instance that the library has read of a text: its kind, `nodes`, the numbers of counted `lines` that were read
-    and of `pairs` with arcs, and its numbers as columns. Calls take the lease that may go on after the instance."""
+    and of `pairs` with arcs, and its numbers as columns."""
 
-    def __init__(self, library: Library, handle: Any, text: Text, lease: Lease) -> None:
-        self._library, self._handle, self._text, self._lease = library, handle, text, lease
+    def __init__(self, library: Library, handle: Any, text: Text) -> None:
+        self._library, self._handle, self._text = library, handle, text
         facts = library.facts(handle)
         self.kind, self._width = KINDS[facts.kind]
         self.nodes: int = facts.nodes
@@ -184,7 +182,6 @@ class Held:
             more = self._counted(call(ctypes.byref(place), at, min(ROOM, count - done)))
             for number, it in enumerate(columns):
                 memoryview(it)[done : done + more] = some[number : numbers * more : numbers]
-            self._text.limit.left()
         return [column(it) for it in columns]
 
     def _counted(self, found: Any) -> int:
@@ -196,25 +193,21 @@ class Held:
     def checksum(self, form: int) -> str:
         """Returns the SHA-256 checksum of the canonical text in a form."""
         library, found, text = self._library, hashlib.sha256(), Handle()
-        lease = Lease(lambda: library.free(ctypes.byref(text)))
         try:
-            make = functools.partial(library.canon, self._handle, form, ctypes.byref(text))
-            status = self._text.limit.during(make, self._lease, lease)
+            status = library.canon(self._handle, form, ctypes.byref(text))
             if status.code != FINE:
                 raise error_of(status, self._text)
             at, room = 0, ctypes.create_string_buffer(BYTES)
             while more := library.text(ctypes.byref(text), at, room, BYTES).count:
-                self._text.limit.left()
                 found.update(ctypes.string_at(room, more))
                 at += more
         finally:
-            lease.end()
+            library.free(ctypes.byref(text))
         return found.hexdigest()
 
     def first_difference(self, right: Held) -> Same | AnyDifference:
         """Returns where this instance and another one first differ."""
-        compare = functools.partial(self._library.compare, self._handle, right._handle)
-        found = self._text.limit.during(compare, self._lease, right._lease)
+        found = self._library.compare(self._handle, right._handle)
         what = WHAT[found.what]
         if what == "same":
             return Same()
@@ -285,20 +278,18 @@ def held(library: Library, text: Text, lines: LinesRead | None = None) -> Iterat
     """Reads a text, and its arc lines if they are wanted, and frees its instance at the end."""
     handle = Handle()
     address = ctypes.byref(handle)
-    lease = Lease(lambda: library.free(address))
     try:
         status, failed = library.begin(address), None
         if status.code == FINE:
             status = fed(library, address, text, lines)
         if status.code == FINE:
-            status = text.limit.during(functools.partial(library.finish, address), lease)
+            status = library.finish(address)
         if status.code == FINE:
-            text.limit.left()
-            yield Held(library, address, text, lease)
+            yield Held(library, address, text)
         else:
             failed = error_of(status, text)
     finally:
-        lease.end()
+        library.free(address)
     if failed:
         raise failed
 
@@ -308,7 +299,6 @@ def fed(library: Library, address: Any, text: Text, lines: LinesRead | None) -> 
     compressed file is read to its end, since only the end tells whether its lines are right."""
     status, size = Status(), 0
     while (piece := text.next_piece()) is not None:
-        text.limit.left()
         children.go_on()
         size += len(piece)
         if size >= ENDLESS:

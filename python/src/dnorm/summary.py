@@ -5,18 +5,22 @@ from __future__ import annotations
 import contextlib
 import dataclasses
 import os
-from collections.abc import Iterator
-from typing import Optional, Union
+from collections.abc import Callable, Iterator
+from concurrent.futures import ThreadPoolExecutor
+from typing import Optional, TypeVar, Union
 
 from .answers import AnyDifference, Same, compared, table
 from .calls import answer, canon_into
 from .files import File, Pieces, Sink, Text, enough_memory, name_of
 from .instances import AnyInstance, Graph, Instance, Max, Min, whole
 from .library import GRAPHS, Held, Library, held, library_of
-from .limits import Limit, at_once
 from .pairs import Key, PairDifference, paired
 from .program import Program
 from .reader import Reader, instance_by
+
+
+One = TypeVar("One")
+Other = TypeVar("Other")
 
 
 @dataclasses.dataclass(frozen=True, repr=False)
@@ -52,24 +56,22 @@ class Differences:
         return table(self, ("key", "left", "right"), ((it.key, it.left, it.right) for it in self.pairs))
 
 
-def differences(
-    left: File, right: File, limit: Optional[int] = None, *, program: Program = None, timeout: Optional[float] = None
-) -> Differences:
+def differences(left: File, right: File, limit: Optional[int] = None, *, program: Program = None) -> Differences:
     """Returns all differences between two texts, and the arcs of the first differing pairs, at most `limit` of them. It
     keeps both canonical texts in memory."""
     if limit is not None and whole("limit", limit) < 0:
         raise ValueError(f"limit is at least 0, and not {limit}")
-    time, library = Limit(timeout, name_of(left)), library_of(program)
-    with enough_memory(time.name):
+    library = library_of(program)
+    with enough_memory(name_of(left)):
         if library:
-            return by_library(library, (left, right), limit, time)
-        return by_program(program, (left, right), limit, time)
+            return by_library(library, (left, right), limit)
+        return by_program(program, (left, right), limit)
 
 
-def by_library(library: Library, files: tuple[File, File], limit: Optional[int], time: Limit) -> Differences:
+def by_library(library: Library, files: tuple[File, File], limit: Optional[int]) -> Differences:
     """Returns how two texts differ, by the library, which reads each of them once."""
     with contextlib.ExitStack() as later, contextlib.ExitStack() as sooner:
-        left, right = both_read(library, files, (sooner, later), time)
+        left, right = both_read(library, files, (sooner, later))
         first, kind = left.first_difference(right), left.kind
         if first:
             found = Differences(first, kind, both=left.pairs if kind in GRAPHS else left.lines)
@@ -81,35 +83,52 @@ def by_library(library: Library, files: tuple[File, File], limit: Optional[int],
             sooner.close()
             other = instance_by(right, 2)
             later.close()
-            found = summary(first, one, other, limit, time)
+            found = summary(first, one, other, limit)
     return found
 
 
 def both_read(
-    library: Library, files: tuple[File, File], stacks: tuple[contextlib.ExitStack, contextlib.ExitStack], time: Limit
+    library: Library, files: tuple[File, File], stacks: tuple[contextlib.ExitStack, contextlib.ExitStack]
 ) -> tuple[Held, Held]:
     """Reads two texts by the library, whose instances the stacks free: two files at the same time, and others one after
     the other, as a pipe of the right one may be written only later."""
 
     def read(file: File, stack: contextlib.ExitStack) -> Held:
-        return stack.enter_context(held(library, Text(file, stack, time)))
+        return stack.enter_context(held(library, Text(file, stack)))
 
     if not all(isinstance(it, (str, os.PathLike)) and os.path.isfile(it) for it in files):
         left, right = (read(*it) for it in zip(files, stacks))
         return left, right
-    text = Text(files[1], stacks[1], time)
+    text = Text(files[1], stacks[1])
     return at_once(lambda: read(files[0], stacks[0]), lambda: stacks[1].enter_context(held(library, text)), text.stop)
 
 
-def by_program(program: Program, files: tuple[File, File], limit: Optional[int], time: Limit) -> Differences:
+def at_once(one: Callable[[], One], other: Callable[[], Other], end: Callable[[], None]) -> tuple[One, Other]:
+    """Returns what two calls return, the second of which a thread makes meanwhile. Raises what the first one raises, if
+    it does, and else what the second one does. `end` makes the second one end soon."""
+    # What the thread reads must not be closed before it ends, for which the pool waits.
+    with ThreadPoolExecutor(1) as pool:
+        try:
+            later = pool.submit(other)
+        except RuntimeError:
+            # The system lets no more threads start.
+            return one(), other()
+        try:
+            return one(), later.result()
+        except BaseException:
+            end()
+            raise
+
+
+def by_program(program: Program, files: tuple[File, File], limit: Optional[int]) -> Differences:
     """Returns how two texts differ, by the program, which reads each of them once, and compares their canonical
     texts."""
-    (left, one), (right, other) = (kept(program, it, time) for it in files)
-    first = answer(compared, lambda *names: ["compare", *names], [left, right], program, time)
-    return Differences(first) if one.kind != other.kind else summary(first, one, other, limit, time)
+    (left, one), (right, other) = (kept(program, it) for it in files)
+    first = answer(compared, lambda *names: ["compare", *names], [left, right], program)
+    return Differences(first) if one.kind != other.kind else summary(first, one, other, limit)
 
 
-def kept(program: Program, file: File, limit: Limit) -> tuple[Pieces, AnyInstance]:
+def kept(program: Program, file: File) -> tuple[Pieces, AnyInstance]:
     """Returns the canonical text of a text, by the program, and its instance."""
     reader = Reader(name_of(file))
     parts: list[bytes] = []
@@ -118,16 +137,14 @@ def kept(program: Program, file: File, limit: Limit) -> tuple[Pieces, AnyInstanc
         reader.take(piece)
         parts.append(piece)
 
-    canon_into(Sink("out", take), file, 2, program, limit)
+    canon_into(Sink("out", take), file, 2, program)
     return Pieces(reader.name, parts), reader.end()
 
 
-def summary(
-    first: Same | AnyDifference, left: Instance, right: Instance, limit: int | None, time: Limit
-) -> Differences:
+def summary(first: Same | AnyDifference, left: Instance, right: Instance, limit: int | None) -> Differences:
     """Returns the differences between two instances of one kind."""
     supplies, values = differing_supplies(left, right), tuple(differing_values(left, right))
-    return Differences(first, left.kind, supplies=supplies, values=values, **paired(left, right, limit, time))
+    return Differences(first, left.kind, supplies=supplies, values=values, **paired(left, right, limit))
 
 
 def differing_supplies(left: Instance, right: Instance) -> int:

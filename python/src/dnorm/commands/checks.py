@@ -14,7 +14,6 @@ from ..calls import check
 from ..errors import Read, Refused
 from ..files import Text
 from ..library import Held, Library, held
-from ..limits import Limit
 from ..names import COMPANIONS, KINDS, parts_of
 from ..program import Program
 
@@ -81,8 +80,8 @@ class Partners:
 class SummedText(Text):
     """A text with the `checksum` of the bytes that were read, or None if no canonical text begins as it does."""
 
-    def __init__(self, name: str, stack: contextlib.ExitStack, limit: Limit) -> None:
-        super().__init__(name, stack, limit)
+    def __init__(self, name: str, stack: contextlib.ExitStack) -> None:
+        super().__init__(name, stack)
         self._sum, self._is_canonical = hashlib.sha256(), True
 
     def next_piece(self) -> bytes | None:
@@ -122,7 +121,6 @@ class Checker:
     an error."""
 
     program: Program
-    timeout: Optional[float]
     library: Optional[Library]
     partners: Optional[Partners]
     has_forms: bool
@@ -144,14 +142,13 @@ class Checker:
         return found
 
     def _by_library(self, library: Library, name: str, graphs: Sequence[str] | None) -> Accepted:
-        limit = Limit(self.timeout, name)
         with contextlib.ExitStack() as stack:
-            text = SummedText(name, stack, limit) if self.has_forms else Text(name, stack, limit)
+            text = SummedText(name, stack) if self.has_forms else Text(name, stack)
             companion = stack.enter_context(held(library, text))
 
             def fit(graph: str) -> None:
                 with contextlib.ExitStack() as inner:
-                    inner.enter_context(held(library, Text(graph, inner, limit))).check_fit(companion)
+                    inner.enter_context(held(library, Text(graph, inner))).check_fit(companion)
 
             forms = forms_of(companion, text) if isinstance(text, SummedText) else None
             found = Accepted(companion.kind, forms)
@@ -160,10 +157,10 @@ class Checker:
         return found
 
     def _by_program(self, name: str, graphs: Sequence[str] | None) -> Accepted:
-        checked = check(name, program=self.program, timeout=self.timeout)
+        checked = check(name, program=self.program)
 
         def fit(graph: str) -> None:
-            check(graph, name, program=self.program, timeout=self.timeout)
+            check(graph, name, program=self.program)
 
         found = Accepted(checked.kind, checked.forms)
         return found if graphs is None else beside(found, name, graphs, fit)

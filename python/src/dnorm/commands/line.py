@@ -15,7 +15,6 @@ from .. import __version__
 from ..console import SIGNALS, Console, Stopped, for_terminal, has_output, heed, number
 from ..errors import DnormError, Read, Refused, Write
 from ..files import failing
-from ..limits import LONGEST
 from ..names import ENDINGS
 from ..program import page, processors, version
 from .reports import cause_of, line_of
@@ -71,18 +70,9 @@ def parser() -> Parser:
             add_outputs(one, task)
             about = "files at the same time, by default one for each processor"
             one.add_argument("-j", "--jobs", type=number(1), default=processors(), metavar="N", help=about)
-        one.add_argument("--timeout", type=seconds, metavar="SECONDS", help="a file that takes longer is a failure")
         about = "the program, by default $DNORM, the one that pip installed, or dnorm on PATH"
         one.add_argument("--program", metavar="PROGRAM", help=about)
     return top
-
-
-def seconds(word: str) -> float:
-    """Returns the number of seconds of an option."""
-    with contextlib.suppress(ValueError):
-        if 0 < float(word) <= LONGEST:
-            return float(word)
-    raise argparse.ArgumentTypeError(f"a number above 0, and at most {LONGEST}, is wanted, and not {word!r}")
 
 
 def add_files(one: argparse.ArgumentParser, task: str) -> None:
@@ -222,7 +212,6 @@ def main(words: Sequence[str] | None = None) -> int:
         getattr(run, found.task)()
         return run.status
     except Stopped as stopped:
-        console.hide()
         end_by(stopped.number, run)
         return FAILED
     except DnormError as error:

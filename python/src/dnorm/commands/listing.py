@@ -16,7 +16,6 @@ from ..columns import Column, least_and_greatest, numpy_here
 from ..files import Sink, Text, enough_memory
 from ..instances import AnyInstance, Co, Graph, Min
 from ..library import Library, held
-from ..limits import Limit
 from ..pairs import VALUES
 from ..program import Program
 from ..reader import Reader, instance_by
@@ -62,25 +61,24 @@ class Listed(NamedTuple):
     checksum: str
 
 
-def listed(name: str, form: int, program: Program, library: Library | None, timeout: float | None) -> Listed:
+def listed(name: str, form: int, program: Program, library: Library | None) -> Listed:
     """Returns what a file contains. The file is read once: by this library, or else by the program."""
-    limit = Limit(timeout, name)
     with enough_memory(name):
         if library is None:
-            return listed_by_program(name, form, program, limit)
-        return listed_by_library(name, form, library, limit)
+            return listed_by_program(name, form, program)
+        return listed_by_library(name, form, library)
 
 
-def listed_by_library(name: str, form: int, library: Library, limit: Limit) -> Listed:
+def listed_by_library(name: str, form: int, library: Library) -> Listed:
     """Returns what a file contains, by the instance that the library has read."""
     with contextlib.ExitStack() as stack:
-        text = Text(name, stack, limit)
+        text = Text(name, stack)
         it = stack.enter_context(held(library, text))
         checksum, instance = it.checksum(form), instance_by(it, form)
     return listed_as(name, text.size, instance, it.lines, checksum)
 
 
-def listed_by_program(name: str, form: int, program: Program, limit: Limit) -> Listed:
+def listed_by_program(name: str, form: int, program: Program) -> Listed:
     """Returns what a file contains, by its canonical text."""
     reader, found, begin = Reader(name), hashlib.sha256(), Beginning()
 
@@ -88,7 +86,7 @@ def listed_by_program(name: str, form: int, program: Program, limit: Limit) -> L
         found.update(piece)
         reader.take(piece)
 
-    canon_into(Sink("out", take), name, form, program, limit, begin.take)
+    canon_into(Sink("out", take), name, form, program, begin.take)
     return listed_as(name, begin.size, reader.end(), begin.declared, found.hexdigest())
 
 

@@ -17,7 +17,6 @@ from ..console import Console
 from ..errors import DnormError, Read, Refused
 from ..files import Text, failing, sink_of
 from ..library import held, library_of
-from ..limits import Limit
 from ..program import absolute
 from ..summary import differences
 from .checks import Accepted, Checker, Partners
@@ -82,7 +81,6 @@ class Run:
         partners = Partners(found.files if words.companions else ())
         checker = Checker(
             words.program,
-            words.timeout,
             self.library,
             partners=partners if words.companions else None,
             has_forms=words.format == "json",
@@ -180,10 +178,9 @@ class Run:
         """Returns the canonical checksum of a file."""
         words = self.words
         if not self.library:
-            return checksum(name, form, program=words.program, timeout=words.timeout)
-        limit = Limit(words.timeout, name)
+            return checksum(name, form, program=words.program)
         with contextlib.ExitStack() as stack:
-            found = stack.enter_context(held(self.library, Text(name, stack, limit))).checksum(form)
+            found = stack.enter_context(held(self.library, Text(name, stack))).checksum(form)
         return found
 
     def verify(self) -> None:
@@ -235,7 +232,7 @@ class Run:
         """Returns the entries of a manifest by their names, and tells what is odd about it. It may be empty or not, and
         like a text, it may be compressed."""
         with failing(Read, name), contextlib.ExitStack() as stack:
-            text = Text(name, stack, Limit(None, name))
+            text = Text(name, stack)
             found, has_form = entries_of(os.fsdecode(b"".join(iter(text.next_piece, None))))
         if not found and not is_empty:
             raise Read(name, "it lists no file")
@@ -277,7 +274,7 @@ class Run:
         words, rows = self.words, 0
 
         def task(name: str) -> Listed:
-            return listed(name, words.form, words.program, self.library, words.timeout)
+            return listed(name, words.form, words.program, self.library)
 
         def take(name: str, result: Listed | DnormError, _: float) -> None:
             nonlocal rows
@@ -297,7 +294,7 @@ class Run:
         words = self.words
         with open(0, "rb", buffering=0, closefd=False) as stream:
             left, right = (stream if it == "-" else it for it in (words.left, words.right))
-            found = differences(left, right, words.limit, program=words.program, timeout=words.timeout)
+            found = differences(left, right, words.limit, program=words.program)
         if words.json:
             self.console.print(as_json(record_of_differences(found)))
         elif not words.quiet:
@@ -339,15 +336,13 @@ class Run:
         def timed(item: Item) -> tuple[Outcome, float]:
             start = time.monotonic()
             found = task(item)
-            self.console.step()
             return found, time.monotonic() - start
 
-        self.console.expect(len(items), self.sizes(items))
         workers = Workers(timed, items, self.words.jobs)
         self.ended = 0
         try:
             for at, item in enumerate(items):
-                result, seconds = workers.result(at, self.console.draw)
+                result, seconds = workers.result(at)
                 self.ended += 1
                 take(item, result, seconds)
                 if self.is_enough():
@@ -368,13 +363,6 @@ class Run:
     def is_enough(self) -> bool:
         """Whether the first fault ends the run."""
         return getattr(self.words, "exit_first", False) and bool(self.status)
-
-    def sizes(self, items: Sequence[object]) -> int:
-        """Returns the sum of the sizes of files, for the progress on a terminal."""
-        if not self.console.is_terminal:
-            return 0
-        names = [it.name if isinstance(it, Entry) else str(it) for it in items]
-        return sum(os.path.getsize(it) for it in names if os.path.isfile(it))
 
     def stop(self) -> None:
         """Prints what is known of a run that a signal ends."""
