@@ -10,7 +10,7 @@
 several times. They open each file once. They take a file as a path, as bytes, or as a binary stream, which they read
 from where it is to its end, and do not close. A path that ends in `.gz`, `.bz2` or `.xz` is decompressed while the
 program reads it, also one that ends in `.zst` if Python or the module `zstandard` can; other compressions are errors.
-`write` writes what `read` returns, and what `from_arrays`, `from_networkx` and `from_scipy` make; such an instance is a
+`write` writes what `read` returns, and what `from_arrays` and `from_networkx` make; such an instance is a
 file as well. The keyword `program` says where the program is: by default `$DNORM` or, if that is not set, the one that
 pip installed with this package, or else the first `dnorm` on `PATH`. `read` and `differences` use the library for C in
 its place where that is beside it, unless `$DNORM_LIBRARY` is `none`.
@@ -18,7 +18,8 @@ its place where that is beside it, unless `$DNORM_LIBRARY` is `none`.
 A text that the program refuses raises `Refused`, and any other failure another `DnormError`. If reading a text fails,
 or a compressed file is corrupt, no call returns an answer for it.
 
-`dnorm-files`, or `python3 -m dnorm`, checks and lists folders, and makes and verifies checksums of their files."""
+`check_folder` checks all texts of a folder, and `read_manifest` and `manifest_changes` tell how checksums have changed.
+`dnorm-files`, or `python3 -m dnorm`, does more with folders."""
 
 from . import alone  # noqa: F401
 from .answers import Checked, Difference, Same
@@ -26,13 +27,16 @@ from .calls import canon, canon_to, check, checksum, compare, write
 from .columns import Column
 from .errors import DnormError, Endless, Killed, Memory, NoProgram, Read, Refused, Unexpected, Write
 from .files import File, Readable, Target, Writable
-from .instances import Co, Graph, Instance, Max, Min, P2p, Sp, Ss, Star, from_arrays
+from .folders import Collection, check_folder
+from .instances import Co, Graph, Instance, Max, Min, P2p, Sp, Ss, from_arrays
 from .library import find_library
 from .lines import ArcLines
-from .networks import from_networkx, from_scipy
+from .manifests import Changes, Manifest, manifest_changes, read_manifest
+from .networks import from_networkx
 from .pairs import PairDifference
 from .program import find_program, version
 from .reader import read
+from .records import Contents, Range, Record
 from .refusals import REFUSALS
 from .summary import Differences, differences
 
@@ -40,9 +44,10 @@ from .summary import Differences, differences
 __version__ = "3.0.0.dev0"
 
 __all__ = [
-    "REFUSALS", "ArcLines", "Checked", "Co", "Column", "Difference", "Differences", "DnormError", "Endless", "File",
-    "Graph", "Instance", "Killed", "Max", "Memory", "Min", "NoProgram", "P2p", "PairDifference", "Read", "Readable",
-    "Refused", "Same", "Sp", "Ss", "Star", "Target", "Unexpected", "Writable", "Write", "canon",
-    "canon_to", "check", "checksum", "compare", "differences", "find_library", "find_program", "from_arrays",
-    "from_networkx", "from_scipy", "read", "version", "write",
+    "ArcLines", "Changes", "Checked", "Co", "Collection", "Column", "Contents", "Difference", "Differences",
+    "DnormError", "Endless", "File", "Graph", "Instance", "Killed", "Manifest", "Max", "Memory", "Min", "NoProgram",
+    "P2p", "PairDifference", "REFUSALS", "Range", "Read", "Readable", "Record", "Refused", "Same", "Sp", "Ss",
+    "Target", "Unexpected", "Writable", "Write", "canon", "canon_to", "check", "check_folder", "checksum", "compare",
+    "differences", "find_library", "find_program", "from_arrays", "from_networkx", "manifest_changes",
+    "read", "read_manifest", "version", "write",
 ]  # fmt: skip

@@ -171,7 +171,6 @@ class Text:
         self.is_file = isinstance(self.text, io.FileIO)
         self.is_compressed = self.is_path and not self.is_file
         self._pieces: Iterator[bytes] | None = None
-        self._is_stopped = False
 
     def _begun(self) -> io.FileIO | Iterator[bytes]:
         """Returns the file whose bytes are the text, or the pieces of the text."""
@@ -200,8 +199,6 @@ class Text:
 
     def next_piece(self) -> bytes | None:
         """Returns the next piece, if there is one."""
-        if self._is_stopped:
-            raise Read(self.name, "it is no longer wanted")
         if self._pieces is None:
             self._pieces = self._all(self.text)
         with failing(Read, self.name):
@@ -212,10 +209,6 @@ class Text:
     def _all(self, text: io.FileIO | Iterator[bytes]) -> Iterator[bytes]:
         """Returns the pieces of the text."""
         return of_stream(text) if isinstance(text, io.FileIO) else text
-
-    def stop(self) -> None:
-        """Lets reading the text fail from the next piece on, for a thread whose answer is no longer wanted."""
-        self._is_stopped = True
 
     def stay_same(self) -> None:
         """Raises Read if the file of the text was written since it was opened."""

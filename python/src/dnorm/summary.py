@@ -4,23 +4,17 @@ from __future__ import annotations
 
 import contextlib
 import dataclasses
-import os
-from collections.abc import Callable, Iterator
-from concurrent.futures import ThreadPoolExecutor
-from typing import Optional, TypeVar, Union
+from collections.abc import Iterator
+from typing import Optional, Union
 
 from .answers import AnyDifference, Same, compared, table
 from .calls import answer, canon_into
 from .files import File, Pieces, Sink, Text, enough_memory, name_of
 from .instances import AnyInstance, Graph, Instance, Max, Min, whole
-from .library import GRAPHS, Held, Library, held, library_of
-from .pairs import Key, PairDifference, paired
+from .library import GRAPHS, Library, held, library_of
+from .pairs import Key, PairDifference, arcs_around, paired
 from .program import Program
 from .reader import Reader, instance_by
-
-
-One = TypeVar("One")
-Other = TypeVar("Other")
 
 
 @dataclasses.dataclass(frozen=True, repr=False)
@@ -32,10 +26,13 @@ class Differences:
     text has, and whose opposite with the same arcs only the right one has. `supplies` is the number of nodes whose
     flows differ. `fields` counts the different pairs by the fields that differ, as `low cap`, or `arcs` if the numbers
     of arcs do. `values` has the names `nodes`, `source` and `sink` with both values, where these differ. `pairs` has
-    the first differing pairs. For companions, points or items are counted instead of pairs. Texts of different kinds
-    have nothing but `first`."""
+    the first differing pairs: those that both texts have, and then the others. For companions, points or items are
+    counted instead of pairs. `left` and `right` are the instances, in form 2. Texts of different kinds have nothing
+    else but `first`."""
 
     first: Union[Same, AnyDifference]
+    left: AnyInstance
+    right: AnyInstance
     kind: Optional[str] = None
     only_left: int = 0
     only_right: int = 0
@@ -46,6 +43,13 @@ class Differences:
     fields: tuple[tuple[str, int], ...] = ()
     values: tuple[tuple[str, int, int], ...] = ()
     pairs: tuple[PairDifference, ...] = ()
+
+    def around(self, node: int) -> tuple[PairDifference, ...]:
+        """Returns the pairs of two graphs from a node and to it, with the arcs of both, which may be the same."""
+        if not isinstance(self.left, Graph) or not isinstance(self.right, Graph):
+            raise TypeError("only graphs have arcs")
+        one, other = arcs_around(self.left, node), arcs_around(self.right, node)
+        return tuple(PairDifference(it, one.get(it, ()), other.get(it, ())) for it in sorted(one | other))
 
     def __repr__(self) -> str:
         counts = [f"{it}={getattr(self, it)}" for it in ("only_left", "only_right", "both", "different")]
@@ -71,53 +75,18 @@ def differences(left: File, right: File, limit: Optional[int] = None, *, program
 def by_library(library: Library, files: tuple[File, File], limit: Optional[int]) -> Differences:
     """Returns how two texts differ, by the library, which reads each of them once."""
     with contextlib.ExitStack() as later, contextlib.ExitStack() as sooner:
-        left, right = both_read(library, files, (sooner, later))
-        first, kind = left.first_difference(right), left.kind
-        if first:
-            found = Differences(first, kind, both=left.pairs if kind in GRAPHS else left.lines)
-        elif kind != right.kind:
-            found = Differences(first)
-        else:
-            one = instance_by(left, 2)
-            # The library keeps the left text no longer than it is needed.
-            sooner.close()
+        stacks = (sooner, later)
+        left, right = (it.enter_context(held(library, Text(file, it))) for file, it in zip(files, stacks))
+        first, both = left.first_difference(right), left.pairs if left.kind in GRAPHS else left.lines
+        one = other = instance_by(left, 2)
+        # The library keeps the left text no longer than it is needed.
+        sooner.close()
+        if not first:
             other = instance_by(right, 2)
-            later.close()
-            found = summary(first, one, other, limit)
-    return found
-
-
-def both_read(
-    library: Library, files: tuple[File, File], stacks: tuple[contextlib.ExitStack, contextlib.ExitStack]
-) -> tuple[Held, Held]:
-    """Reads two texts by the library, whose instances the stacks free: two files at the same time, and others one after
-    the other, as a pipe of the right one may be written only later."""
-
-    def read(file: File, stack: contextlib.ExitStack) -> Held:
-        return stack.enter_context(held(library, Text(file, stack)))
-
-    if not all(isinstance(it, (str, os.PathLike)) and os.path.isfile(it) for it in files):
-        left, right = (read(*it) for it in zip(files, stacks))
-        return left, right
-    text = Text(files[1], stacks[1])
-    return at_once(lambda: read(files[0], stacks[0]), lambda: stacks[1].enter_context(held(library, text)), text.stop)
-
-
-def at_once(one: Callable[[], One], other: Callable[[], Other], end: Callable[[], None]) -> tuple[One, Other]:
-    """Returns what two calls return, the second of which a thread makes meanwhile. Raises what the first one raises, if
-    it does, and else what the second one does. `end` makes the second one end soon."""
-    # What the thread reads must not be closed before it ends, for which the pool waits.
-    with ThreadPoolExecutor(1) as pool:
-        try:
-            later = pool.submit(other)
-        except RuntimeError:
-            # The system lets no more threads start.
-            return one(), other()
-        try:
-            return one(), later.result()
-        except BaseException:
-            end()
-            raise
+        later.close()
+    if first:
+        return Differences(first, one, other, one.kind, both=both)
+    return summary(first, one, other, limit)
 
 
 def by_program(program: Program, files: tuple[File, File], limit: Optional[int]) -> Differences:
@@ -125,7 +94,7 @@ def by_program(program: Program, files: tuple[File, File], limit: Optional[int])
     texts."""
     (left, one), (right, other) = (kept(program, it) for it in files)
     first = answer(compared, lambda *names: ["compare", *names], [left, right], program)
-    return Differences(first) if one.kind != other.kind else summary(first, one, other, limit)
+    return summary(first, one, other, limit)
 
 
 def kept(program: Program, file: File) -> tuple[Pieces, AnyInstance]:
@@ -141,10 +110,12 @@ def kept(program: Program, file: File) -> tuple[Pieces, AnyInstance]:
     return Pieces(reader.name, parts), reader.end()
 
 
-def summary(first: Same | AnyDifference, left: Instance, right: Instance, limit: int | None) -> Differences:
-    """Returns the differences between two instances of one kind."""
+def summary(first: Same | AnyDifference, left: AnyInstance, right: AnyInstance, limit: int | None) -> Differences:
+    """Returns the differences between two instances."""
+    if left.kind != right.kind:
+        return Differences(first, left, right)
     supplies, values = differing_supplies(left, right), tuple(differing_values(left, right))
-    return Differences(first, left.kind, supplies=supplies, values=values, **paired(left, right, limit))
+    return Differences(first, left, right, left.kind, supplies=supplies, values=values, **paired(left, right, limit))
 
 
 def differing_supplies(left: Instance, right: Instance) -> int:
