@@ -9,9 +9,10 @@ from collections.abc import Callable, Iterator
 import pytest
 from needs import leave_out, need, need_proc, terminal
 from shared import Answer, run, said, write
-from test_share import FILES
+from test_share import FILES, PARTS
 
 from dnorm.commands.line import TASKS, parser
+from dnorm.parts.line import parser as parts_parser
 
 # Command lines, and the completions of the last word of each, in a folder with the files check, g.gr and s.ss.
 COMPLETED = [
@@ -45,6 +46,13 @@ COMPLETED = [
     ("dnorm-files look --s", "--since"),
     ("dnorm-files compare g.gr s", "s.ss"),
     ("dnorm-files compare --l", "--limit"),
+    ("canon-in-parts --f", "--form"),
+    ("canon-in-parts --l", "--lines"),
+    ("canon-in-parts --form ", "1 2"),
+    ("canon-in-parts --form=2", "2"),
+    ("canon-in-parts --form 2 ", "check g.gr s.ss"),
+    ("canon-in-parts --program s", "s.ss"),
+    ("canon-in-parts --lines 5 g", "g.gr"),
 ]
 FILES_HERE = "check g.gr s.ss"
 
@@ -55,7 +63,7 @@ def values() -> Iterator[tuple[str, str]]:
     with the beginning of all options of a command."""
     (tasks,) = (it for it in parser()._actions if isinstance(it, argparse._SubParsersAction))
     found = {f"dnorm-files {task}": tasks.choices[task] for task in TASKS}
-    for words, one in found.items():
+    for words, one in {**found, "canon-in-parts": parts_parser()}.items():
         options = [it for it in one._actions if it.option_strings]
         yield f"{words} --", " ".join(it.option_strings[-1] for it in options)
         for it in options:
@@ -147,7 +155,7 @@ def environment(tested: str, folder: str, made: str) -> dict[str, str]:
         os.mkdir(name)
     for name in ["check", "g.gr", "s.ss"]:
         write(f"files/{name}", "")
-    for path, name in [(tested, "dnorm"), (FILES, "dnorm-files")]:
+    for path, name in [(tested, "dnorm"), (PARTS, "canon-in-parts"), (FILES, "dnorm-files")]:
         os.symlink(path, f"bin/{name}")
     write("key", KEY_OF_ZSH)
     own = {"PATH": f"{folder}/bin:{os.environ['PATH']}", "HOME": f"{folder}/home", "XDG_DATA_DIRS": f"{made}/share"}
@@ -178,7 +186,7 @@ def test_bash(shell: Shell) -> None:
     compare(shell("bash", "-c", IN_BASH, "bash", *("".join(f"{it}\x1f" for it in words) for words in lines)))
 
 
-@pytest.mark.parametrize("command", ["dnorm", "dnorm-files"])
+@pytest.mark.parametrize("command", ["dnorm", "dnorm-files", "canon-in-parts"])
 def test_bash_loads(shell: Shell, command: str) -> None:
     """The package of bash finds the file."""
     if not os.path.exists("/usr/share/bash-completion/bash_completion"):

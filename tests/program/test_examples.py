@@ -44,6 +44,7 @@ RECIPES = [
     ("docs/MANUAL.md", "Compressed files", "gzip -dc roads.gr.gz", "roads.gr.gz", 2, 2),
     ("docs/MANUAL.md", "In place", "dnorm canon town.gr > town.gr.new", "town.gr", 2, 4),
     ("docs/MANUAL.md", "Progress", "pv", "examples/roads.gr", 2, 2),
+    ("docs/FILES.md", "Larger than memory", "canon-in-parts", "examples/roads.gr", 2, 4),
 ]
 TEXTS = sorted(os.listdir(f"{ROOT}/examples/refused"))
 

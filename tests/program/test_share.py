@@ -10,12 +10,12 @@ from collections.abc import Callable
 import pytest
 from needs import need
 from refusal_table import faults, refusals
-from shared import ROOT, run, said, text_of, write
+from shared import ROOT, Answer, run, said, text_of, write
 
 from dnorm.commands.line import TASKS
 
-FILES = f"{ROOT}/dnorm-files"
-PAGES = [f"man1/{it}.1" for it in ["dnorm", "dnorm-files", "dnorm-explain"]]
+FILES, PARTS = f"{ROOT}/dnorm-files", f"{ROOT}/scale/canon-in-parts"
+PAGES = [f"man1/{it}.1" for it in ["dnorm", "dnorm-files", "dnorm-explain", "canon-in-parts"]]
 PAGES += [f"man3/{it}.3" for it in ["dnorm.h", "dnorm_tools.h"]]
 WIDTH = 80
 COMMAND = re.compile(r"^  (\w+)  ", re.M)
@@ -76,9 +76,10 @@ def test_page(help_of: Callable[[str], str], made: str, command: str) -> None:
 def test_pages_of_package(made: str) -> None:
     """The pages have all options, and no others."""
     told = run([FILES, "--help"]).out.decode() + "".join(run([FILES, it, "--help"]).out.decode() for it in TASKS)
-    paged = text_of(f"{made}/share/man/{PAGES[1]}").replace(r"\-", "-")
-    found = re.findall(r"^\.TP\n(?:\\fB-\w\\fR, )?\\fB(--[\w-]+)", paged, re.M)
-    assert {*OPTION.findall(told)} == {*found}
+    for page, text in zip([PAGES[1], PAGES[3]], [told, run([PARTS, "--help"]).out.decode()]):
+        paged = text_of(f"{made}/share/man/{page}").replace(r"\-", "-")
+        found = re.findall(r"^\.TP\n(?:\\fB-\w\\fR, )?\\fB(--[\w-]+)", paged, re.M)
+        assert {*OPTION.findall(text)} == {*found}, page
 
 
 def test_refusals(help_of: Callable[[str], str]) -> None:
@@ -118,3 +119,9 @@ def test_rule(folder: str) -> None:
     assert (found.err, found.status) == (b"", 1)
     assert {it.partition(":")[0] for it in found.out.decode().splitlines()} == BY_HAND
     assert run(["copy/tools/lists"]) == found
+
+
+def test_version_of_parts(tested: str) -> None:
+    version = run([tested, "--version"]).out.replace(b"dnorm ", b"canon-in-parts (dnorm) ")
+    for word in ["--version", "-V"]:
+        assert run([PARTS, "--program", tested, word]) == Answer(version, b"", 0)

@@ -24,7 +24,7 @@ for it in sys.argv[1:]:
     importlib.import_module(it)
 print(*{it.partition(".")[0] for it in sys.modules})
 """
-COMMANDS = ["dnorm.commands.line", "dnorm.commands.explain", "fnmatch"]
+COMMANDS = ["dnorm.commands.line", "dnorm.commands.explain", "dnorm.parts.line", "dnorm.parts.chunks", "fnmatch"]
 OPTIONAL = ["numpy", "pandas", "scipy", "networkx", "igraph", "zstandard", "compression", "sitecustomize"]
 PROGRAMS = ["python3", "dnorm", "dnorm-files", "git", "readlink", "dirname", "sed", "find", "parallel", "gzip", "sh"]
 # The ways to name the current folder in a list of folders.
@@ -90,7 +90,9 @@ def test_python_scripts(tested: str) -> None:
     """The scripts in Python, with modules in the current folder."""
     make_traps(imported(*COMMANDS, "json", "xml.etree.ElementTree") | {*OPTIONAL})
     own = environment(tested)
-    run([f"{ROOT}/share/conformance/run.py", "--level", "accept", "--rule", "BadLine", tested], env=own)
+    given = run([f"{ROOT}/scale/canon-in-parts", "bad.gr"], env=own)
+    assert (text_of("../ran"), given.out, given.status) == ("", b"", 2), "canon-in-parts"
+    given = run([f"{ROOT}/share/conformance/run.py", "--level", "accept", "--rule", "BadLine", tested], env=own)
     assert text_of("../ran") == "", "the conformance suite"
     own["PYTHONPATH"] = PACKAGE
     script = "import sys; sys.argv[0] = 'dnorm-files'; from dnorm.__main__ import main; sys.exit(main())"

@@ -106,12 +106,13 @@ def test_commands(tested: str) -> None:
     """The commands of wheels, which do what those of `./install` do."""
     text = text_of(f"{ROOT}/python/pyproject.toml").partition("[project.scripts]\n")[2].partition("\n\n")[0]
     commands = dict(re.findall(r'^([\w-]+) = "(.*)"$', text, re.M))
-    assert sorted(commands) == ["dnorm-explain", "dnorm-files"]
+    assert sorted(commands) == ["canon-in-parts", "dnorm-explain", "dnorm-files"]
     environment = {**os.environ, **ENVIRONMENT, "DNORM": tested}
+    places = {"canon-in-parts": "scale/canon-in-parts"}
     for name, place in commands.items():
         code = BY_PIP.format(name, *place.split(":"))
-        for words in ["--help", "--none", f"check {ROOT}/examples/refused/13-NodeOutOfRange.gr"]:
-            own = run([f"{ROOT}/{name}", *words.split()], ROADS, env=environment)
+        for words in ["--help", "--none", f"check {ROOT}/examples/refused/13-NodeOutOfRange.gr", "--lines 2 -"]:
+            own = run([f"{ROOT}/{places.get(name, name)}", *words.split()], ROADS, env=environment)
             assert run([sys.executable, "-c", code, *words.split()], ROADS, env=environment) == own, f"{name} {words}"
 
 
@@ -136,7 +137,7 @@ def test_page() -> None:
         assert f"\n{wanted} describes the commands.\n" in found, package
 
 
-@pytest.mark.parametrize("name", ["dnorm-files", "dnorm-explain"])
+@pytest.mark.parametrize("name", ["dnorm-files", "dnorm-explain", "scale/canon-in-parts"])
 def test_without_python(folder: str, name: str) -> None:
     os.mkdir("bin")
     for it in ["sh", "dirname", "readlink"]:

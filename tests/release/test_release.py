@@ -20,7 +20,7 @@ import zipfile
 
 import pytest
 from builds import by_cmake
-from known import CANONICAL, ROADS, rows
+from known import CANONICAL, ROADS, ROADS_CANON, rows
 from needs import leave_out, need, pass_over
 from scratch import ADDED, FIRST, FOR_AARCH64, MACHINES, MODULES, OF_LIBRARY, OUT, RELEASED, SCRIPTS, SUITE, TIME, WHO
 from scratch import Made, Place, Port, all_below, all_listed, files_of, in_package, tool_of
@@ -219,6 +219,7 @@ def test_runs_of_archive(made: Made, two: Place) -> None:
     uses_library(made, made.tree)
     words = [f"{made.tree}/share/conformance/run.py", "--rule", "first", f"{made.tree}/dnorm"]
     assert run(words) == said(FIRST)
+    parts(made, f"{made.tree}/scale/canon-in-parts")
     assert files_of(all_below(made.tree)) == archived()
     assert [it for it in os.listdir(f"{made.tree}/python/src") if it.endswith(".py")] == ["__main__.py"]
     links(made, made.tree)
@@ -342,7 +343,7 @@ def test_by_pip(made: Made, two: Place) -> None:
         before = all_below(f"{place}/bin")
         found = run([*pip, "install", "--quiet", "--no-index", "--no-deps", f"{made.one.dist}/{wheel}"])
         assert (found.out, found.status) == (b"", 0), f"pip install {wheel}"
-        commands = [*["dnorm"] * has_program, "dnorm-explain", "dnorm-files"]
+        commands = ["canon-in-parts", *["dnorm"] * has_program, "dnorm-explain", "dnorm-files"]
         assert sorted(all_below(f"{place}/bin").keys() - before) == commands, "its commands"
         own = {"PATH": "/none"} | ({} if has_program else {"DNORM": made.tested})
         code = "import dnorm; print(dnorm.version(), dnorm.find_program(), dnorm.find_library() or '')"
@@ -356,7 +357,8 @@ def test_by_pip(made: Made, two: Place) -> None:
             assert found == said("roads.gr: accepted sp\n", "1 accepted, 0 refused, 0 failed\n"), f"{command}"
         (page,) = glob.glob(f"{place}/lib/python*/site-packages/dnorm/FILES.md")
         assert f"{page} describes the commands" in run([f"{place}/bin/dnorm-files", "--help"], env=own).out.decode()
-        assert run([f"{place}/bin/dnorm-explain", "--help"], env=own).status == 0
+        for name in ["canon-in-parts", "dnorm-explain"]:
+            assert run([f"{place}/bin/{name}", "--help"], env=own).status == 0, name
         found = run([*pip, "uninstall", "--quiet", "--yes", "dnorm"])
         assert (found.status, all_below(f"{place}/bin")) == (0, before), "pip uninstall"
 
@@ -441,6 +443,7 @@ def test_runs_of_packages(made: Made, two: Place) -> None:
     """What the packages for this machine have runs, and programs are built with the library's, by pkg-config and by
     CMake."""
     to = unpacked(made, made.ports[0])
+    parts(made, f"{to}/usr/bin/canon-in-parts")
     links(made, f"{to}/usr/share/doc/dnorm")
     to = library_below(made, made.ports[0])
     uses_library(made, f"{to}/usr", to)
@@ -495,6 +498,15 @@ def least_libc(library: str) -> str:
     """Returns the least version of the C library that has all that a shared library needs."""
     told = run(["readelf", "-W", "--dyn-syms", library]).out.decode()
     return ".".join(max(re.findall(r"GLIBC_(\d+)\.(\d+)", told), key=lambda it: [*map(int, it)]))
+
+
+def parts(made: Made, script: str) -> None:
+    """The output of this canon-in-parts, called by its name and by a link."""
+    link = f"{made.folder}/link"
+    os.symlink(script, link)
+    for it in [script, link]:
+        assert run([it, "--lines", "2", "-"], ROADS, cwd="/") == said(ROADS_CANON.decode()), it
+    os.remove(link)
 
 
 def install(folder: str, *words: str, below: str = "", path: str = "") -> Answer:
@@ -573,6 +585,7 @@ def test_installs(made: Made, two: Place, what: str) -> None:
     assert bytes_of(f"{prefix}/bin/dnorm") == bytes_of(linked), "the program"
     if "busybox" not in what:
         by_cmake(f"{made.folder}/by cmake", prefix)
+        parts(made, f"{prefix}/bin/canon-in-parts")
         compiles(made, f"{prefix}/share/dnorm/python")
     assert install(folder, "--uninstall", prefix, path=path) == said(), "./install --uninstall"
     assert all_below(prefix) == before, "what is left"

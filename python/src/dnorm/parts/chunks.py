@@ -1,0 +1,387 @@
+"""Writes the canonical text of a graph that does not fit into memory: the bytes that one run of dnorm over the whole
+text would write. `canon-in-parts --help` explains its use.
+
+The text is cut into a head and chunks of whole lines. Each chunk is canonicalised by itself. Its arcs, then sorted by
+tail, are cut into ranges of tails, at the same tails in each chunk. For each range, the slices of all chunks are
+canonicalised again, one after another; the ranges, one after another, are the arcs of the whole.
+
+All files of a run are in one folder: head.raw, chunk.N (lines as they are), chunk.N.arcs and range.N.arcs (canonical
+texts)."""
+
+from __future__ import annotations
+
+import contextlib
+import os
+import re
+from argparse import Namespace
+from collections.abc import Iterator, Sequence
+from concurrent.futures import FIRST_EXCEPTION, ThreadPoolExecutor, wait
+from dataclasses import dataclass
+from itertools import chain
+from typing import BinaryIO, NamedTuple
+
+from ..console import Console
+from ..errors import DnormError, Memory, Refused, Write
+from ..files import Sink, write_all
+from ..program import children
+from .part import ARC, BLOCK, Piece, Result, blocks, canon, canon_part, lines, whole
+
+# A line whose first word is `p`.
+PROBLEM = re.compile(rb"^[ \t\r]*p[ \t\r].*", re.M)
+# The longest wait for a job, in seconds. A signal that comes just before a wait does not end it.
+PAUSE = 0.1
+# A part is given by its pieces, and by the name of its files.
+Part = tuple[Sequence[Piece], str]
+# About how many tails of a chunk are looked at, to choose the ranges.
+TAILS = 100
+
+
+class Ended(Exception):
+    """The run ends with this status, after this line is printed, if it is not empty."""
+
+    def __init__(self, status: int, line: str) -> None:
+        super().__init__(status, line)
+        self.status, self.line = status, line
+
+
+def fail(status: int, line: str) -> Ended:
+    return Ended(status, f"canon-in-parts: {line}")
+
+
+@dataclass
+class Chunk:
+    """A part of the text: lines in a file, of which this many lines of the text precede the first. `arcs` says which
+    bytes of `path`.arcs are its canonical arcs."""
+
+    path: str
+    before: int
+    arcs: Piece
+
+
+class Fault(NamedTuple):
+    """A refusal, at a line of the text."""
+
+    line: int
+    refusal: str
+
+
+class Parts:
+    """A run of this program, in a folder of its own, with the parsed `options`. `has_output` says whether standard
+    output is open."""
+
+    def __init__(self, options: Namespace, folder: str, program: str, has_output: bool) -> None:
+        self.options, self.folder, self.program, self.has_output = options, folder, program, has_output
+        self.console = Console()
+        self.head = f"{folder}/head.raw"
+        self.kind, self.nodes, self.declared = "", 0, 0
+        # The refusal of a `max` text without a source or a sink, which is reported only at the end.
+        self.missing = ""
+
+    def run(self) -> None:
+        """Reads the text from standard input, and writes its canonical text."""
+        paths = self.cut_text()
+        found = first_arc(paths)
+        if not found:
+            raise self.in_one_run(paths)
+        chunks = self.without_head(paths, *found)
+        self.read_head(chunks[0])
+        if self.kind == "max" and self.nodes <= 1:
+            # A part needs a source and a sink. A graph of one node has at most one pair.
+            raise self.in_one_run([self.head, *(it.path for it in chunks)])
+        results = self.canon("canonicalising chunks", [([whole(it.path)], it.path) for it in chunks], 1)
+        chunks, seen, made, fault = self.judged(chunks, results)
+        ranges = ranges_of(chunks, self.options.parts or len(chunks))
+        parts = [(pieces, f"{self.folder}/range.{at:07}") for at, pieces in enumerate(ranges)]
+        results = self.canon("canonicalising ranges", parts, self.options.form)
+        earliest = self.too_large(chunks, ranges, results)
+        for it in [earliest, fault]:
+            if it:
+                raise self.stop(f":{it.line}: {it.refusal}")
+        if self.missing:
+            raise self.stop(self.missing)
+        if seen != self.declared:
+            raise self.stop(":end: 20 TooFewLines")
+        if made != sum(it.arcs for it in results):
+            raise fail(4, "a part was lost on its way")
+        self.write_text(parts, results)
+
+    def stop(self, what: str) -> Ended:
+        """Returns the end with the line that dnorm would print for a text with this fault."""
+        return Ended(2, f"{self.options.file}{what}")
+
+    def tell(self, what: str) -> None:
+        """Says on a terminal what is done."""
+        if self.console.is_terminal and what:
+            self.console.complain(f"canon-in-parts: {what}\n")
+
+    def cut_text(self) -> list[str]:
+        """Cuts standard input into chunks of whole lines."""
+        self.tell("cutting the text")
+        paths: list[str] = []
+        left, block = 0, b""
+        with open(0, "rb", buffering=0, closefd=False) as text, contextlib.ExitStack() as stack:
+            while block := block or text.read(BLOCK):
+                if not left:
+                    stack.close()
+                    paths.append(f"{self.folder}/chunk.{len(paths):07}")
+                    chunk = stack.enter_context(open(paths[-1], "wb", buffering=0))
+                    left = self.options.lines
+                end = end_of_line(block, left)
+                write_all(chunk, block[:end])
+                left -= block.count(b"\n", 0, end)
+                block = block[end:]
+        return paths
+
+    def in_one_run(self, paths: Sequence[str]) -> Ended:
+        """Writes the canonical text of files in one run of the program, and returns the end with its status."""
+        text = (block for path in paths for block in blocks(whole(path)))
+        try:
+            with open(1, "wb", buffering=0, closefd=False) as out:
+                canon(self.program, text, self.options.form, Sink("out", len, out))
+        except Refused as error:
+            return self.stop(error.rest)
+        if not self.has_output:
+            raise Write("out")
+        return Ended(0, "")
+
+    def without_head(self, paths: Sequence[str], first: int, at: int) -> list[Chunk]:
+        """Moves all lines before the first arc line, at byte `at` of this chunk, from the chunks into the head."""
+        pieces = [*map(whole, paths[:first]), Piece(paths[first], 0, at)]
+        with open(self.head, "wb", buffering=0) as head:
+            for piece in pieces:
+                pour(piece, head)
+        before = line_count(pieces[-1])
+        rest = f"{self.folder}/rest"
+        with open(rest, "wb", buffering=0) as file:
+            pour(Piece(paths[first], at, os.path.getsize(paths[first])), file)
+        for path in paths[:first]:
+            os.remove(path)
+        os.replace(rest, paths[first])
+        count = self.options.lines
+        nothing = Piece("", 0, 0)
+        chunks = [Chunk(path, number * count, nothing) for number, path in enumerate(paths)][first:]
+        chunks[0].before += before
+        return chunks
+
+    def read_head(self, first: Chunk) -> None:
+        """Reads the head with the first arc line, so that each fault up to there is reported as it is, and takes the
+        kind and the two numbers of the problem line."""
+        with open(first.path, "rb") as chunk:
+            arc = chunk.readline()
+        try:
+            canon(self.program, chain(lines(whole(self.head)), [arc]), 1, Sink("out", len))
+        except Refused as error:
+            if error.number == 19:
+                self.missing = error.rest
+            elif error.number != 20:
+                raise self.stop(error.rest) from error
+        problem = next(filter(None, map(PROBLEM.search, lines(whole(self.head)))))
+        _, kind, nodes, declared, *_ = re.split(rb"[ \t\r]+", problem[0].strip(b" \t\r"))
+        self.kind, self.nodes, self.declared = kind.decode(), int(nodes), int(declared)
+
+    def canon(self, what: str, parts: Sequence[Part], form: int) -> list[Result]:
+        """Canonicalises parts, as many at once as there are jobs, and returns their results."""
+
+        def one(pieces: Sequence[Piece], path: str) -> Result:
+            found = canon_part(self.program, self.kind, self.nodes, form, pieces, f"{path}.arcs")
+            self.console.step()
+            return found
+
+        self.tell(what)
+        self.console.expect(len(parts))
+        with ThreadPoolExecutor(self.options.jobs) as pool:
+            try:
+                futures = [pool.submit(one, *it) for it in parts]
+                rest = set(futures)
+                while rest:
+                    done, rest = wait(rest, PAUSE, FIRST_EXCEPTION)
+                    for it in done:
+                        it.result()
+            except BaseException as error:
+                children.stop()
+                pool.shutdown(wait=False, cancel_futures=True)
+                # The system may let no thread start, which is a RuntimeError.
+                if isinstance(error, (DnormError, RuntimeError)) and not isinstance(error, Memory):
+                    why = error.rest.lstrip(": ") if isinstance(error, DnormError) else error
+                    raise fail(4, f"a part failed: {why}") from error
+                raise
+            finally:
+                self.console.hide()
+        results = [it.result() for it in futures]
+        for (_, path), result in zip(parts, results):
+            if os.path.getsize(f"{path}.arcs") != result.size:
+                raise fail(4, "a part was lost on its way")
+        return results
+
+    def judged(self, chunks: Sequence[Chunk], results: Sequence[Result]) -> tuple[list[Chunk], int, int, Fault | None]:
+        """Visits the chunks in their order, up to the first line that has a fault in its chunk, or that is one arc line
+        too many. Later chunks are left out, and this chunk keeps the lines before. Returns the chunks, how many arc
+        lines and canonical arcs they have, and the fault."""
+        kept, seen, made = [], 0, 0
+        for chunk, result in zip(chunks, results):
+            line, refusal = result.line, result.refusal
+            if seen + result.arcs > self.declared:
+                over = line_of_arc(chunk.path, self.declared - seen + 1)
+                if not line or line >= over:
+                    line, refusal = over, "7 TooManyLines"
+            seen += result.arcs
+            kept.append(chunk)
+            if line:
+                # In `sp` no sum can be too large in the lines before.
+                fault = Fault(chunk.before + line, refusal)
+                if self.kind == "sp":
+                    raise self.stop(f":{fault.line}: {refusal}")
+                os.truncate(chunk.path, end_of(chunk.path, line - 1))
+                result = self.canon("", [([whole(chunk.path)], chunk.path)], 1)[0]
+            chunk.arcs = Piece(f"{chunk.path}.arcs", result.start, result.size)
+            made += result.made
+            if line:
+                return kept, seen, made, fault
+            if self.kind == "sp":
+                os.remove(chunk.path)
+        return kept, seen, made, None
+
+    def too_large(
+        self, chunks: Sequence[Chunk], ranges: Sequence[Sequence[Piece]], results: Sequence[Result]
+    ) -> Fault | None:
+        """Returns the earliest line of the text at which the sum of a pair is too large across chunks."""
+        found = []
+        for pieces, result in zip(ranges, results):
+            if result.line:
+                # The line belongs to the chunk of the slice that contains it. The slices before it, followed by the
+                # lines of the chunk, show which line it is.
+                at, before = 0, 0
+                while before + (count := line_count(pieces[at])) < result.line:
+                    at, before = at + 1, before + count
+                chunk = next(it for it in chunks if it.arcs.path == pieces[at].path)
+                shown = self.canon("", [([*pieces[:at], whole(chunk.path)], f"{self.folder}/sum")], 1)[0]
+                found.append(Fault(chunk.before + shown.line - before, result.refusal))
+        return min(found, default=None)
+
+    def write_text(self, parts: Sequence[Part], results: Sequence[Result]) -> None:
+        """Writes the canonical text: the head with the count of all arcs, and the ranges."""
+        at = f"{self.folder}/head.canon"
+        problem = f"p {self.kind} {self.nodes} 0".encode()
+        with open(at, "wb") as head:
+            canon(self.program, (PROBLEM.sub(problem, it, 1) for it in lines(whole(self.head))), 1, Sink("", len, head))
+        with open(at, "rb") as head:
+            end = len(head.readline())
+        count = sum(it.made for it in results)
+        out = open(1, "wb", buffering=0, closefd=False)
+        try:
+            if not self.has_output:
+                raise OSError
+            write_all(out, f"p {self.kind} {self.nodes} {count}\n".encode())
+            pour(Piece(at, end, os.path.getsize(at)), out)
+            for (_, path), result in zip(parts, results):
+                pour(Piece(f"{path}.arcs", result.start, result.size), out)
+                os.remove(f"{path}.arcs")
+        except OSError as error:
+            raise Write("out") from error
+
+
+def pour(piece: Piece, to: BinaryIO) -> None:
+    """Writes bytes of a file into another one."""
+    for block in blocks(piece):
+        write_all(to, block)
+
+
+def end_of_line(block: bytes, number: int) -> int:
+    """Returns where the line of this number ends, or else the end of the block."""
+    if block.count(b"\n") < number:
+        return len(block)
+    at = 0
+    for _ in range(number):
+        at = block.index(b"\n", at) + 1
+    return at
+
+
+def end_of(path: str, number: int) -> int:
+    """Returns where the line of this number ends in a file."""
+    at = 0
+    for block in lines(whole(path)):
+        count = block.count(b"\n")
+        if number <= count:
+            return at + end_of_line(block, number)
+        at, number = at + len(block), number - count
+    return at
+
+
+def line_count(piece: Piece) -> int:
+    """Returns how many line ends these bytes of a file have."""
+    return sum(block.count(b"\n") for block in lines(piece))
+
+
+def first_arc(paths: Sequence[str]) -> tuple[int, int] | None:
+    """Returns the first of these files that has an arc line, by its place, and the byte at which the line begins."""
+    for number, path in enumerate(paths):
+        at = 0
+        for block in lines(whole(path)):
+            found = ARC.search(block)
+            if found:
+                return number, at + found.start()
+            at += len(block)
+    return None
+
+
+def line_of_arc(path: str, number: int) -> int:
+    """Returns the number of the line of a file with this arc line, counted among the arc lines."""
+    line = 0
+    for block in lines(whole(path)):
+        found = [it.start() for it in ARC.finditer(block)]
+        if number <= len(found):
+            return line + block.count(b"\n", 0, found[number - 1]) + 1
+        line, number = line + block.count(b"\n"), number - len(found)
+    raise ValueError(number)
+
+
+def tail_on(line: bytes) -> int:
+    return int(line.split(b" ", 2)[1])
+
+
+def tails_of(arcs: Piece) -> Iterator[int]:
+    """Yields about a hundred tails at equal distances among canonical arcs."""
+    size = arcs.end - arcs.start
+    with open(arcs.path, "rb") as file:
+        for at in range(arcs.start, arcs.end, max(1, size // TAILS)):
+            file.seek(at)
+            line = file.readline()
+            if at > arcs.start:
+                # The first bytes are the rest of a line.
+                line = file.readline()
+            if line:
+                yield tail_on(line)
+
+
+def ranges_of(chunks: Sequence[Chunk], count: int) -> list[list[Piece]]:
+    """Cuts the canonical arcs of the chunks into ranges of tails, so that ranges have about the same number of arcs.
+    Returns for each range its slices of all chunks, in their order."""
+    tails = sorted(it for chunk in chunks for it in tails_of(chunk.arcs))
+    count = min(count, len(tails))
+    bounds = sorted({tails[at * len(tails) // count] for at in range(1, count)})
+    ranges: list[list[Piece]] = [[] for _ in range(len(bounds) + 1)]
+    for chunk in chunks:
+        with open(chunk.arcs.path, "rb") as file:
+            cuts = [place_of(file, chunk.arcs.start, chunk.arcs.end, it) for it in bounds]
+        for pieces, start, end in zip(ranges, [chunk.arcs.start, *cuts], [*cuts, chunk.arcs.end]):
+            if start < end:
+                pieces.append(Piece(chunk.arcs.path, start, end))
+    return ranges
+
+
+def place_of(file: BinaryIO, low: int, high: int, bound: int) -> int:
+    """Returns where the first arc begins whose tail is not below a bound, in a file of arcs that rise. The arcs between
+    are from `low`, where a line begins, to `high`, where one ends."""
+    while low < high:
+        middle = (low + high) // 2
+        file.seek(max(middle - 1, low))
+        if middle > low:
+            # The line that contains the byte before, so that a line that begins at this byte is the next one.
+            file.readline()
+        begin = file.tell()
+        line = file.readline() if begin < high else b""
+        if line and tail_on(line) < bound:
+            low = begin + len(line)
+        else:
+            high = middle
+    return low

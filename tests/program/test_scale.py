@@ -1,0 +1,274 @@
+"""scale/canon-in-parts against one run of the built program: the bytes, the line on standard error and the status are
+the same. The texts are of all kinds, clean, noisy and with unusual spelling. They are cut into chunks of one line up
+to more than the text, and into one range up to more ranges than lines."""
+
+import os
+import random
+import shlex
+import shutil
+import signal
+import subprocess
+import time
+from typing import Any
+
+import pytest
+from needs import pass_over, seeds
+from reading import MOST
+from shared import LIMIT, ROOT, Answer, pipe, run, said, text_of, write
+from texts import lines_of, made, spelled, spoilt
+
+pytestmark = pytest.mark.whole
+SCRIPT = f"{ROOT}/scale/canon-in-parts"
+HALF = MOST // 2 + 1
+
+NOISY = (
+    b"\r\r\n \t \nc p sp 1 1\np\tsp  +4 006 \r\n\n\r \t a \t+3 02\r-007 \r\nca 1 2\n  a 1 2 -7\nc \0\xff\n"
+    b"a 4 4 0\na 3 2 00000000000000000000000000000000000000000000000001\n\na 2 1 -0\nc a 9 9 9\n a 1 2 8"
+)
+SUPPLIES = (
+    b"c in both forms\np min 4 8\nn 3 -2\nn 1 2\nn 2 0\na 3 1 0 4 1\na 1 2 1 3 2\na 1 2 0 2 5\na 1 2 2 2 -7\n"
+    b"a 2 3 0 0 9\na 1 2 0 1 2\na 4 4 1 1 1\na 4 4 2 3 0\n"
+)
+CAPACITIES = b"p max 5 7\nn 5 t\nn 1 s\na 2 3 0\na 1 2 4\na 1 3 2\na 1 2 5\na 5 5 1\na 4 1 3\na 4 1 0\n"
+FAR_NODES = (
+    b"p sp 9223372036854775807 6\na 9223372036854775807 1 3\na 9223372036854775806 2 1\na 9223372036854775805 1 1\n"
+    b"a 9007199254740993 5 5\na 9007199254740992 5 5\na 1 9223372036854775807 2\n"
+)
+
+
+def terminals(count: int, *arcs: str) -> bytes:
+    """Returns a `max` text of three nodes."""
+    return "\n".join([f"p max 3 {count}", "n 1 s", "n 3 t", *[f"a {it}" for it in arcs], ""]).encode()
+
+
+# Texts that one process reads whole, and texts whose head has a fault. No part of them is made.
+WHOLE = [
+    b"", b"c only\n\n", b"p sp 0 0", b"p min 5 0\nn 2 7\nn 1 -7\nn 3 0\n", b"p max 2 0\nn 2 s\nn 1 t\n",
+    b"p max 2 1\nn 1 s\n", b"p aux sp ss 3\ns 3\ns 1\ns 1\n", b"p aux sp co 2\nv 2 1 1\nv 1 5 5\n",
+    b"p aux sp co 2\nv 2 1 1\nv 2 5 5\n", b"p max 1 2\na 1 1 5\na 1 1 6\n", b"p max 1 2\nn 1 s\nn 1 t\na 1 1 5\n",
+    b"p sp 0 1\na 1 1 1\n", b"a 1 2 3\np sp 2 1\n", b"p aux sp ss 1\na 1 2 3\n", b"p sp 2 0\na 1 2 3\n",
+    b"c\nq 1\np sp 2 1\na 1 2 3\n", b"p sp 2 1\na 1 2 x\nb\n",
+]  # fmt: skip
+# Texts in parts: the lines of a chunk, the number of ranges (0 for as many as chunks), the form, and the text.
+PARTS = [
+    (1, 0, 1, NOISY),
+    (3, 40, 2, NOISY),
+    (1000, 3, 1, NOISY),
+    (1, 2, 1, SUPPLIES),
+    (4, 0, 2, SUPPLIES),
+    (2, 50, 1, CAPACITIES),
+    (2, 3, 2, FAR_NODES),
+    # No arc means anything.
+    (1, 2, 1, b"p min 2 2\na 1 2 0 0 9\na 2 1 0 0 9\n"),
+    # Faults in the first, a middle and the last chunk, and two faults.
+    (3, 2, 1, b"p sp 2 4\na 1 2 3\na 1 2 x\na 1 2 3\na 1 2 3\n"),
+    (2, 0, 1, b"p min 2 4\na 1 2 0 3 1\na 1 2 0 3 1\na 2 1 4 3 1\na 1 2 0 3 1\n"),
+    (1, 3, 1, b"p max 2 4\nn 1 s\nn 2 t\na 1 2 3\na 1 2 3\na 1 2 3\na 1 5 3"),
+    (2, 1, 2, b"p min 2 4\na 1 2 0 3 1\na 1 2 0 3 1\na 2 1 0 3 1\nn 1 0\np sp 1 1\n"),
+    (2, 1, 2, b"p sp 2 3\na 1 2 3\nc\np sp 2 3\na 1 2 3\nx\n"),
+    # One arc line too many, with another fault in it, before it and after it; one arc line too few; no sink.
+    (2, 2, 1, b"p sp 2 2\na 1 2 3\na 1 2\na x\n"),
+    (2, 2, 1, b"p sp 2 2\na 1 2 3\na 1 2 3\na x\nb\n"),
+    (1, 2, 1, b"p sp 2 2\na 1 2 3\na 1 2 3\nb\na x\n"),
+    (2, 2, 1, b"p sp 2 4\na 1 2 3\na 1 2 3\na 2 2 2\n"),
+    (1, 2, 1, b"p max 2 3\nn 1 s\na 1 2 5\na 1 2 6\na 2 2 2\n"),
+    (1, 2, 1, b"p max 2 3\nn 1 s\na 1 2 5\na 1 2 -6\na 2 2 2\n"),
+    # Sums that are too large only across chunks, in two ranges, before another fault and after it.
+    (2, 2, 1, terminals(3, f"1 2 {MOST}", "2 3 1", "1 2 1")),
+    (2, 2, 1, terminals(3, f"1 2 {MOST}", "2 3 1", "1 2 0")),
+    (1, 3, 1, terminals(4, f"1 2 {MOST}", f"2 3 {MOST}", "2 3 1", "1 2 1")),
+    (3, 3, 1, terminals(4, f"1 2 {MOST}", f"2 3 {MOST}", "1 2 1", "2 3 1")),
+    (2, 2, 1, terminals(3, f"1 2 {MOST}", "1 2 1", "1 2 x")),
+    (2, 2, 1, terminals(3, f"1 2 {MOST}", "1 2 x", "1 2 1")),
+    (2, 0, 1, terminals(5, f"1 2 {MOST}", "1 2 1")),
+    # A node line behind an arc, in a chunk of its own.
+    (1, 2, 1, terminals(2, "1 2 3") + b"n 2 s\na 1 2 3\n"),
+    (1, 2, 2, f"p min 3 3\na 1 2 {HALF} {HALF} {MOST}\na 1 2 0 5 -4\na 1 2 0 {HALF} 4\n".encode()),
+    (1, 2, 2, f"p min 3 3\na 1 2 {HALF} {HALF} {MOST}\na 1 2 0 5 -4\na 1 2 0 {HALF - 6} 4\n".encode()),
+]
+
+# Wrong command lines.
+BAD_WORDS = [
+    *["", "a b", "--color -", "-x", "- --lines", "--form 3 -", "--form nan -", "--lines 0 -", "--lines inf -"],
+    *["--parts x -", "--parts -1 -", "--jobs many -", "--jobs nan -", "--jobs 1.5 -", "--jobs +5 -", "--jobs 50% -"],
+]
+
+# What a part does that fails, and what is said of it.
+FAILING = [
+    ("kill -9 $$", "dnorm was ended by signal 9 (SIGKILL)"),
+    ("echo 'out: 33 Write' >&2; exit 4", "33 Write"),
+    ("exit 7", "dnorm did not answer as it should (its status was 7, and it printed '')"),
+]
+# Signals that end the script while it reads, or makes parts of this text. Without a text, the script waits for it.
+SIGNALS = [(signal.SIGTERM, SUPPLIES), (signal.SIGINT, b""), (signal.SIGHUP, b""), (signal.SIGINT, SUPPLIES)]
+# A program that runs the command in braces for a part. Its other runs are those of the built program: for the version,
+# and for the head of the text, which comes first.
+STAND_IN = '#!/bin/bash\nif [[ $1 == canon ]] && ! mkdir "$0.head" 2> /dev/null; then {}; fi\nexec {} "$@"\n'
+
+
+class Scale:
+    """The script with a program, a folder for its temporary files, and another folder for the files of the test."""
+
+    def __init__(self, tested: str, folder: str) -> None:
+        self.program, self.folder = tested, folder
+        self.temporary = f"{folder}/temporary"
+        os.mkdir(self.temporary)
+
+    def words(self, *options: str, tested: str = "") -> list[str]:
+        return [SCRIPT, "--program", tested or self.program, "--tmpdir", self.temporary, *options]
+
+    def run(self, *options: str, given: bytes = b"", tested: str = "", **more: Any) -> Answer:
+        """Runs the script, which must leave no temporary files."""
+        found = run(self.words(*options, tested=tested), given, **more)
+        assert os.listdir(self.temporary) == [], "files left"
+        return found
+
+    def parts(self, text: bytes, lines: int, parts: int, form: int, *options: str) -> None:
+        """Compares a text made in parts with one run."""
+        words = ["--jobs", "2", "--lines", f"{lines}", f"--form={form}", *options]
+        words += ["--parts", f"{parts}"] if parts else []
+        wanted = run([self.program, "canon", "--form", f"{form}", "-"], text)
+        assert self.run(*words, "-", given=text) == wanted, f"{' '.join(words)}, of {text!r}"
+
+    def stand_in(self, does: str) -> str:
+        """Makes a program that runs this command in place of canonicalising a part."""
+        path = f"{self.folder}/stand-in"
+        shutil.rmtree(f"{path}.head", ignore_errors=True)
+        write(path, STAND_IN.format(does, shlex.quote(self.program)))
+        os.chmod(path, 0o755)
+        return path
+
+
+@pytest.fixture
+def scale(tested: str, folder: str) -> Scale:
+    write("-n.min", SUPPLIES)
+    return Scale(tested, folder)
+
+
+@pytest.mark.parametrize("text", WHOLE, ids=repr)
+def test_in_one(scale: Scale, text: bytes) -> None:
+    scale.parts(text, 2, 0, 1)
+
+
+@pytest.mark.parametrize("lines, parts, form, text", PARTS)
+def test_in_parts(scale: Scale, lines: int, parts: int, form: int, text: bytes) -> None:
+    scale.parts(text, lines, parts, form)
+
+
+@pytest.mark.parametrize("seed", seeds(8, 0))
+def test_random(scale: Scale, seed: int) -> None:
+    chance = random.Random(seed)
+    plain = lines_of(chance, made(chance, ["min", "max", "sp"][seed % 3], seed % 2 == 0))
+    text = spelled(chance, spoilt(chance, plain) if seed % 4 == 3 else plain)
+    scale.parts(text, chance.choice([1, 2, 3, 5, 50]), chance.choice([0, 1, 2, 3, 20]), 1 + seed % 2)
+
+
+def test_names(scale: Scale) -> None:
+    """Names of texts and of the folder for temporary files."""
+    wanted = run([scale.program, "canon", "--", "-n.min"])
+    assert scale.run("--lines=3", "--", "-n.min") == wanted
+    write("two words.min", SUPPLIES)
+    os.mkdir("two words")
+    assert scale.run("--lines=3", "--tmpdir", f"{scale.folder}/two words", "two words.min") == wanted
+    assert os.listdir("two words") == []
+
+
+def test_refusals(scale: Scale) -> None:
+    write("faulty", b"p sp 2 2\na 1 2 3\na 1 2\n")
+    assert scale.run("faulty", "--lines", "2") == said(b"", b"faulty:3: 8 FieldCount\n", 2)
+    for name in ["missing", "."]:
+        assert scale.run(name) == said(b"", f"{name}: 31 Read\n", 4)
+
+
+@pytest.mark.parametrize("stream", ["> /dev/full", ">&-", "<&-"])
+def test_streams(scale: Scale, stream: str) -> None:
+    name, line = ("-", "-: 31 Read\n") if stream == "<&-" else ("./-n.min", "out: 33 Write\n")
+    found = run(["bash", "-c", f"{shlex.join(scale.words('--lines=3'))} {name} {stream}"])
+    assert found == said(b"", line, 4)
+    assert os.listdir(scale.temporary) == []
+
+
+@pytest.mark.parametrize("words", BAD_WORDS)
+def test_wrong_words(scale: Scale, words: str) -> None:
+    found = run(scale.words(*words.split()))
+    told = found.err.startswith(b"canon-in-parts: ") and found.err.count(b"\n") == 1
+    assert (found.out, told, found.status) == (b"", True, 3)
+
+
+def test_help() -> None:
+    found = run([SCRIPT, "--help"])
+    assert (found.out.startswith(b"usage: canon-in-parts "), found.err, found.status) == (True, b"", 0)
+
+
+def test_out_of_memory(scale: Scale) -> None:
+    wanted = said(b"", b"./-n.min: 30 Memory\n", 4)
+    lacks = scale.stand_in("echo '-: 30 Memory' >&2; exit 4")
+    assert scale.run("--lines", "3", "./-n.min", tested=lacks) == wanted
+    # Only the last chunk runs out of memory, while the first one is still in progress.
+    lacks = scale.stand_in("grep -q '^a 4 4 2' || exec sleep 30; echo '-: 30 Memory' >&2; exit 4")
+    started = time.monotonic()
+    assert scale.run("--lines", "8", "--jobs", "2", "./-n.min", tested=lacks) == wanted
+    assert time.monotonic() - started < 20, "it ends at once"
+
+
+@pytest.mark.parametrize("does, line", FAILING)
+def test_failing_part(scale: Scale, does: str, line: str) -> None:
+    found = scale.run("--lines", "3", "./-n.min", tested=scale.stand_in(does))
+    assert found == said(b"", f"canon-in-parts: a part failed: {line}\n", 4)
+
+
+@pytest.mark.parametrize("number, text", SIGNALS)
+def test_signal(scale: Scale, heeded: None, number: signal.Signals, text: bytes) -> None:
+    """A script that a signal ends, while it makes parts or reads, leaves no files and no processes."""
+    begun = f"{scale.folder}/begun"
+    waits = scale.stand_in(f"echo $$ >> {shlex.quote(begun)}; exec sleep 30")
+    write(begun, "")
+    started = subprocess.Popen(scale.words("--lines", "3", "-", tested=waits), stdin=subprocess.PIPE)
+    if text:
+        pipe(started.stdin).write(text)
+        pipe(started.stdin).close()
+    while started.poll() is None and not (os.path.getsize(begun) if text else os.listdir(scale.temporary)):
+        time.sleep(0.02)
+    started.send_signal(number)
+    assert started.wait(LIMIT) == 128 + number
+    assert os.listdir(scale.temporary) == []
+    assert [it for it in text_of(begun).split() if is_running(it)] == [], "processes left"
+
+
+def is_running(process: str) -> bool:
+    """Whether a process has not ended. One that has ended, but was not waited for, has no arguments any more."""
+    try:
+        with open(f"/proc/{process}/cmdline", "rb") as words:
+            return bool(words.read())
+    except FileNotFoundError:
+        return False
+
+
+@pytest.mark.parametrize("own, status", [('exec "$P" "$@"', 0), ("exit 125", 125)])
+def test_clone(tested: str, folder: str, own: str, status: int) -> None:
+    """canon-in-parts of a clone takes the `./dnorm` of it, and has its status where it cannot build the program."""
+    os.makedirs("clone/scale")
+    os.symlink(f"{ROOT}/python", "clone/python")
+    shutil.copy(SCRIPT, "clone/scale/canon-in-parts")
+    write("clone/dnorm", f"#!/bin/sh\nP={shlex.quote(tested)}\n{own}\n")
+    os.chmod("clone/dnorm", 0o755)
+    wanted = run([tested, "canon", "-"], SUPPLIES).out if not status else b""
+    assert run(["clone/scale/canon-in-parts", "--lines", "2", "-"], SUPPLIES) == said(wanted, b"", status)
+
+
+@pytest.mark.parametrize("count", [1, 3])
+def test_jobs_at_once(scale: Scale, count: int) -> None:
+    """As many jobs run at once as were asked for."""
+    write("log", "")
+    own = scale.stand_in("echo + >> log; sleep 0.3; echo - >> log")
+    scale.run("--lines=1", f"--jobs={count}", "-", given=SUPPLIES, tested=own)
+    steps = [1 if it == "+" else -1 for it in text_of("log").split()]
+    assert max(sum(steps[:at]) for at in range(len(steps) + 1)) == count
+
+
+@pytest.mark.parametrize("name", ["python2.7", "python3.6", "python3.7", "python3.8"])
+def test_old_python(scale: Scale, name: str) -> None:
+    # A shim of pyenv is there for a Python that is not.
+    if not shutil.which(name) or run([name, "--version"]).status:
+        pass_over(name)
+    assert run([name, *scale.words("-")], SUPPLIES) == said(b"", b"canon-in-parts: it needs Python 3.9 or later\n", 4)
