@@ -1,11 +1,12 @@
-"""dnorm-explain shows what is wrong in a file, the commands that it prints mend the file, and its status is that of
-dnorm."""
+"""dnorm-explain shows what is wrong in a file or in a command line, the commands that it prints mend the file, and its
+status is that of dnorm."""
 
 import bz2
 import gzip
 import io
 import lzma
 import os
+import re
 import shutil
 import subprocess
 import zipfile
@@ -42,6 +43,31 @@ EXPLAINED: list[tuple[str, bytes, list[str]]] = [
         enumerate([b"<<<<<<< HEAD", b"||||||| 1234567", b"=======", b">>>>>>> branch"])],
     ("o.gr", b"p sp 2 1\n==\n", ["line 2: =="]),
 ]  # fmt: skip
+# Command lines that dnorm refuses, in a folder with the files t.gr and u.gr, and what dnorm-explain says of them.
+WRONG_WORDS = [
+    ("t.gr", "a command comes before the file: dnorm check t.gr"),
+    ("chek t.gr", "dnorm has no command chek: the nearest is check"),
+    ("diff t.gr u.gr", "dnorm has no command diff: the nearest is compare"),
+    ("version", "dnorm has no command version: the nearest is --version"),
+    ("frobnicate", "dnorm has no command frobnicate; its commands are canon, check, compare, show, help"),
+    ("check t.gr u.gr", "check takes one file, and not 2; for several: dnorm-files check FILES.."),
+    ("check", "check takes one file, and not 0; - is standard input"),
+    ("-", "a command comes before the file: dnorm check -"),
+    ("13", "13 NodeOutOfRange: A node is not in 1 to NODES; in a companion, below 1."),
+    ("explain 13", "dnorm has no command explain: the nearest is help"),
+    ("canon t.gr -o out", "canon has no option -o: it has --form"),
+    ("check \udcff.gr", "dnorm takes no name that is not UTF-8: dnorm check - < $'\\xff.gr'"),
+    ("canon t.gr u.gr", "canon takes one file, and not 2"),
+    ("compare t.gr", "compare takes two files, and not 1; - is standard input"),
+    ("check -q t.gr", "check has no option -q: it has --with"),
+    ("compare --limit=3 t.gr u.gr", "compare has no option --limit: it has none but --help"),
+    ("canon --form 3 t.gr", "--form takes 1 or 2, and not '3'"),
+    ("canon t.gr --form", "--form takes 1 or 2, and not ''"),
+    ("canon --form=1 --form 1 t.gr", "--form can be given once"),
+    ("check t.gr --with", "--with takes the name of a file, and not ''"),
+    ("help 13", "13 NodeOutOfRange: A node is not in 1 to NODES; in a companion, below 1."),
+    ("help me", "help takes one command: canon, check, compare, show"),
+]
 
 
 def zipped(text: bytes) -> bytes:
@@ -193,13 +219,25 @@ def test_installed_modules(prefix: str, explained: Callable[..., Answer]) -> Non
     assert compiled == [], "compiled modules beside the installed ones"
 
 
+@pytest.mark.parametrize("command", ["canon", "check", "compare", "show"])
+def test_options(tested: str, explained: Callable[..., Answer], command: str) -> None:
+    help_text = run([tested, "help", command]).out.decode()
+    told = explained(f"{command} --other").err.decode().partition(": it has ")[2]
+    options = set(re.findall(r"^ +(--\w+)", help_text, re.M))
+    assert set(re.findall(r"--\w+", told)) - {"--help"} == options - {"--help"}
+
+
+@pytest.mark.parametrize("words, line", WRONG_WORDS, ids=[repr(it[0]) for it in WRONG_WORDS])
+def test_wrong_words(explained: Callable[..., Answer], words: str, line: str) -> None:
+    assert explained(words) == said(b"", f"dnorm: bad command line\n    {line}\n", 3)
+
+
 def test_right_words(prefix: str, explained: Callable[..., Answer]) -> None:
     """dnorm-explain runs dnorm, explains what it refuses, and has its status."""
     assert explained("check t.gr") == said(b"accepted sp\nforms none\n")
     wanted = said(b"", b"u.gr:1: 1 BadLine\n    line 1: x\n", 2)
     assert explained("canon u.gr") == wanted
     assert explained("canon u.gr", DNORM=f"env {prefix}/bin/dnorm") == wanted, "by a command"
-    assert explained("chek t.gr") == said(b"", b"dnorm: bad command line\n", 3)
     wanted = said(b"", b"s.ss: 35 NotInGraph 7\n    line 3 names it: s 7\n", 2)
     assert explained("check t.gr --with s.ss") == wanted
     assert explained("compare t.gr below") == said(b"", b"below: 31 Read\n    Is a directory\n", 4)

@@ -1,5 +1,5 @@
 """Tests `python3 -m dnorm`: its lines, reports and exit statuses, manifests, groups of files of one problem, odd names,
-2,000 files in one call, signals, and streams that fail."""
+2,000 files in one call, the progress bar, signals, and streams that fail."""
 
 import contextlib
 import ctypes
@@ -108,12 +108,14 @@ COMMANDS = ["check", "manifest", "same", "list", "compare", "look"]
 # Numbers of Linux.
 PR_CAPBSET_DROP, CAP_DAC_OVERRIDE, CAP_DAC_READ_SEARCH = 24, 1, 2
 # Arguments that are refused.
+NO_SECONDS = ["inf", "nan", "-1", "-inf", "1e400", "1000000001", "x", "''"]
 WRONG = [
     *["", "x", "check", "check --jobs 0 set", "check --jobs x set", "check --jobs", "check --js set"],
-    *["check --form 2 set", "check --junit", "check --json --output-format github set"],
+    *["check --form 2 set", "check --junit", "check --timeout 0 set", "check --json --output-format github set"],
+    *[f"{it} --timeout {seconds} set" for it in ("check", "list", "compare set") for seconds in NO_SECONDS],
     *[f"check --jobs {it} set" for it in ("nan", "-1", "1.5", "1e3")],
-    *["list --csv set", "look", "look set set set", "look --since x set set"],
-    *["check --output-format xml set", "check --files0-from", "check --files0-from - -"],
+    *["look", "look set set set", "look --since x set set", "look --timeout 0 set"],
+    *["check --output-format xml set", "check --csv set", "check --files0-from", "check --files0-from - -"],
     *["check --staged=x set", "check --staged -q", "check --incremental x set", "manifest --staged"],
     *["manifest", "manifest --form 3 set", "manifest --verify x --form 2", "manifest --verify x --output y"],
     *["manifest --verify x --incremental y", "manifest --output x --incremental y z"],
@@ -248,23 +250,17 @@ def test_reports() -> None:
     records = [json.loads(it) for it in found.out.splitlines()]
     names = sorted(["missing", *SET])
     assert [it["name"] for it in records[:-1]] == names, "names in JSON"
-    ended: dict[str, object] = {
-        "accepted": 11,
-        "refused": 2,
-        "failed": 1,
-        "without_graph": 0,
-        "graph_not_accepted": 0,
-        "other_kind": 0,
-    }
-    ended |= {"other_files": 4, "excluded": 0, "status": 4, "form": 1, "unfinished": None}
+    ended: dict[str, object] = {"accepted": 11, "refused": 2, "failed": 1}
+    ended |= dict.fromkeys(("without_graph", "graph_not_accepted", "other_kind", "excluded"), 0)
+    ended |= {"other_files": 4, "status": 4, "form": 1, "unfinished": None}
     assert records[-1] == {"summary": ended}, "the counts in JSON"
     of = {it["name"]: it for it in records[:-1]}
     assert all(it.pop("seconds") > 0 for name, it in of.items() if name != "missing"), "seconds"
-    nothing = dict.fromkeys(["kind", "error", "line", "number", "word", "sentence", "text", "hint", "partners"])
-    nothing |= {"remarks": [], "checksum": None, **dict.fromkeys(SIZES)}
+    nothing = dict.fromkeys(["kind", "forms", "error", "line", "number", "word", "sentence", "text", "hint", "graphs"])
+    nothing |= {"not_accepted": None, "remarks": [], "checksum": None, **dict.fromkeys(SIZES)}
     wanted: dict[str, object] = {**nothing, "name": "set/a-b.gr", "status": "accepted", "kind": "sp", "nodes": 3}
-    wanted |= {"bytes": len(ROADS_CANON), "declared": 5, "canonical": 5, "merged": 0, "self_loops": 1}
-    wanted |= {"checksum": hashlib.sha256(ROADS_CANON).hexdigest()}
+    wanted |= {"forms": [1, 2], "bytes": len(ROADS_CANON), "declared": 5, "canonical": 5, "merged": 0}
+    wanted |= {"self_loops": 1, "checksum": hashlib.sha256(ROADS_CANON).hexdigest()}
     assert of["set/a-b.gr"] == wanted, "an accepted file in JSON"
     wanted = {**nothing, "name": "set/bad.max", "status": "refused", "error": "set/bad.max:end: 19 MissingTerminal"}
     wanted |= {"number": 19, "word": "MissingTerminal", "sentence": "A max file has no source or no sink."}
@@ -344,6 +340,22 @@ def on_terminal(*words: str) -> tuple[str, int]:
             told += piece
     os.close(upper)
     return told.decode().replace("\r\n", "\n"), process.wait(LIMIT)
+
+
+def test_progress() -> None:
+    """The progress bar, which is drawn on a terminal only, and its removal before each line."""
+    slow = fake("slow", "sleep 0.3; cat > /dev/null; echo accepted sp; echo forms 1")
+    names = [f"{it}.gr" for it in range(4)]
+    make(dict.fromkeys(names, ROADS))
+    told, status = on_terminal("check", "--jobs", "1", "--program", slow, *names)
+    assert status == 0, "the status on a terminal"
+    bars = re.findall(r"\r\[(#*)\.*\] (\d) of 4, \d+ %", told)
+    shares = [int(it) for it in re.findall(r"of 4, (\d+) %", told)]
+    assert shares == sorted(shares) and shares[:1] < [50] and shares[-1:] > [50], f"shares rise: {shares}"
+    assert {len(it) for it, _ in bars} == {30 * int(at) // 4 for _, at in bars}, "bars on a terminal"
+    assert bars, "there are bars on a terminal"
+    wanted = [*(f"{it}: accepted sp" for it in names), "4 accepted, 0 refused, 0 failed", ""]
+    assert [it.rpartition("\r")[2] for it in told.split("\n")] == wanted, "lines on a terminal"
 
 
 def test_together() -> None:

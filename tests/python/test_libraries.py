@@ -1,13 +1,18 @@
 """Tests where the Python package finds the library for C, and that `read` gives the same by it as by the program, also
-with little memory, from several threads; that `check --json` prints the same by both; and that
+with little memory, from several threads and of two files at once; that `check --json` prints the same by both; and that
 no other library is used, one of another version least of all."""
 
 import functools
 import gzip
 import itertools
+import json
 import os
 import random
 import shutil
+import signal
+import threading
+import types
+from collections import Counter
 from collections.abc import Callable
 from concurrent.futures import ThreadPoolExecutor
 
@@ -15,13 +20,14 @@ import pytest
 from collection import GRAPH, POINTER, SOURCES
 from known import CANONICAL, ROADS
 from needs import leave_out
-from shared import ROOT, run, said, write
+from shared import LIMIT, ROOT, run, said, write
 from test_calls import COLUMNS, READS, fake, python, told
 from test_folders import ENVIRONMENT, MODULE, make, timeless
 from texts import lines_of, made, spelled
 
 import dnorm
 import dnorm.library
+import dnorm.limits
 from dnorm.program import children
 
 pytestmark = [*READS, pytest.mark.parametrize("reader", ["library"], indirect=True)]
@@ -143,14 +149,14 @@ def test_others(tested: str) -> None:
         assert is_told, f"the library {name} by its name: {found}"
     found = with_environment(lambda: dnorm.read(ROADS), DNORM_LIBRARY="/none")
     assert found.startswith("NoProgram: /none: cannot be run ($DNORM_LIBRARY names it, "), f"no library: {found}"
-    dies = fake("dies", "kill -9 $$")
-    found = with_environment(lambda: dnorm.read(ROADS, program=dies), DNORM_LIBRARY=LIBRARY)
-    assert found == "Killed: -: dnorm was ended by signal 9 (SIGKILL)", "an argument is stronger"
+    slow = fake("slow", "exec sleep 60")
+    found = with_environment(lambda: dnorm.read(ROADS, program=slow, timeout=0.3), DNORM_LIBRARY=LIBRARY)
+    assert found == "TimedOut: -: took more than 0.3 seconds", "an argument is stronger"
 
 
 def test_same_checks() -> None:
-    """That `check --json` prints the same by both, also of compressed texts; and that by the library the program checks
-    none of them."""
+    """That `check --json` prints the same by both, also of compressed texts, with the forms in which a text is
+    canonical; and that by the library the program checks none of them."""
     chance = random.Random(SEED)
     texts = [text for row in CANONICAL for text in row]
     texts += [spelled(chance, lines_of(chance, made(chance, chance.choice([*COLUMNS])))) for _ in range(ROUNDS)]
@@ -162,27 +168,36 @@ def test_same_checks() -> None:
     for library, program in [("none", None), (LIBRARY, None), (LIBRARY, fake("other", "cat > /dev/null; exit 5"))]:
         own = {"DNORM_LIBRARY": library} | ({"DNORM": program} if program else {})
         found.append(run([*MODULE, "check", "--json", "--companions", "set"], env={**os.environ, **ENVIRONMENT, **own}))
+    forms = Counter(str(json.loads(it).get("forms")) for it in found[0].out.splitlines())
+    assert min(forms[it] for it in ("[1, 2]", "[1]", "[2]", "[]", "None")) > 1, f"forms: {forms}"
     # Each takes its own time.
-    records = [timeless(it.out) for it in found]
-    assert records[0].count(b'"accepted"') > 100 and records[0].count(b'"refused"') > 3
+    records = [it._replace(out=timeless(it.out)) for it in found]
     assert records[0] == records[1], "check --json by both"
     assert records[0] == records[2], "check --json beside another program"
 
 
 def test_in_rooms() -> None:
-    """Columns are copied whole in rooms of several sizes."""
+    """Columns are copied whole in rooms of several sizes, and that after each room it is seen whether the
+    time is over: looks at the clock are counted."""
     os.environ["DNORM_LIBRARY"] = LIBRARY
     texts = {
         b"p sp 1000 1000\n" + b"".join(b"a %d 1 7\n" % it for it in range(1, 1001)): 1000,
         b"p aux sp co 1000\n" + b"".join(b"v %d 1 7\n" % it for it in range(1, 1001)): 1000,
         b"p min 2 300\n" + b"".join(b"a 1 2 0 1 %d\n" % it for it in range(300)): 300,
     }
-    kept = dnorm.library.ROOM
+    kept, names = dnorm.library.ROOM, vars(dnorm.limits)
+    clock = names["time"]
     for text, count in texts.items():
-        whole = dnorm.read(text)
+        whole, looks = dnorm.read(text), set()
         for room in [1, 7, 300, 1000, 1001]:
             dnorm.library.ROOM = room
             assert dnorm.read(text) == whole, f"{count} rows in rooms of {room}"
+            clock_looks = itertools.count()
+            names["time"] = types.SimpleNamespace(monotonic=clock_looks.__next__)
+            dnorm.read(text, timeout=9999)
+            looks.add(next(clock_looks) - -(-count // room))
+            names["time"] = clock
+        assert len(looks) == 1, f"looks at the clock beside one a room, {whole.kind}"
     dnorm.library.ROOM = kept
 
 
@@ -209,9 +224,41 @@ def test_in_threads() -> None:
     dnorm.library.ENDLESS = kept
 
 
-def test_refused_first() -> None:
-    """Which refusal is told of two files."""
+def test_at_once(monkeypatch: pytest.MonkeyPatch) -> None:
+    """Two calls at the same time, of which either may fail, also where no thread starts; and which refusal is told of
+    two files that are read so."""
     os.environ["DNORM_LIBRARY"] = LIBRARY
+    wanted = threading.Event()
+
+    def fail() -> str:
+        raise ValueError("it fails")
+
+    def wait() -> bool:
+        return wanted.wait(LIMIT)
+
+    def both(one: Callable[[], object], other: Callable[[], object]) -> str:
+        return told(lambda: dnorm.limits.at_once(one, other, wanted.set))
+
+    def not_started(_: threading.Thread) -> None:
+        raise RuntimeError("can't start new thread")
+
+    assert both(fail, wait) == "ValueError: it fails", "the first one fails, and the other one is asked to end"
+    wanted.clear()
+    # A signal comes while the first call has ended, and the second one has not. The handler of the tests would end this
+    # process.
+    handler = signal.signal(signal.SIGINT, signal.default_int_handler)
+    main = threading.main_thread().ident
+    assert main
+    threading.Timer(0.3, signal.pthread_kill, [main, signal.SIGINT]).start()
+    with pytest.raises(KeyboardInterrupt):
+        both(lambda: 1, wait)
+    signal.signal(signal.SIGINT, handler)
+    assert wanted.is_set(), "the other one is asked to end"
+    for start in [threading.Thread.start, not_started]:
+        with monkeypatch.context() as patched:
+            patched.setattr(threading.Thread, "start", start)
+            assert both(lambda: 1, lambda: 2) == "(1, 2)\n", "two calls"
+            assert both(lambda: 1, fail) == "ValueError: it fails", "the second one fails"
     for name, text in {"good.gr": ROADS, "bad.gr": b"p sp 2 1\na 1 3 5\n", "worse.gr": b"x\n"}.items():
         write(name, text)
     told_of = {"good.gr": "same\n", "bad.gr": "Refused: bad.gr:2: 13 NodeOutOfRange"}

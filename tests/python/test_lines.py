@@ -1,10 +1,10 @@
 """Tests that `read` returns the arc lines of a text beside its instance, by the library for C and by the program, and
-that a flow on the arcs is put back on the lines."""
+that a flow on the arcs is put back on the lines; and where the arcs of each node are."""
 
 import random
 
 import pytest
-from known import CANONICAL, FLOWS, REFUSED
+from known import CANONICAL, FLOWS, REFUSED, ROADS
 from test_calls import ALL, COLUMNS, FORMS, READS
 from texts import lines_of, made, spelled
 
@@ -64,3 +64,18 @@ def test_no_flow(reader: str) -> None:
             lines.spread(found, flow)
     with pytest.raises(ValueError):
         [*lines.flow_lines([1])]
+
+
+def test_star(reader: str) -> None:
+    found = dnorm.read(ROADS)
+    assert isinstance(found, dnorm.Sp)
+    star = found.star()
+    arcs = [*zip(found.tails, found.heads)]
+    for node in range(1, found.nodes + 1):
+        own = range(star.first[node - 1], star.first[node])
+        assert [arcs[it][0] for it in own] == [node] * sum(tail == node for tail, _ in arcs)
+        into = star.into[star.into_first[node - 1] : star.into_first[node]].tolist()
+        assert into == [at for at, (_, head) in enumerate(arcs) if head == node]
+    turned = dnorm.from_arrays("sp", nodes=3, tails=[2, 1], heads=[1, 1], lengths=[0, 0])
+    with pytest.raises(ValueError):
+        turned.star()

@@ -42,7 +42,7 @@ def test_pipes() -> None:
         found = by_bash(words)
         assert found.status == status, f"the status of {words}: {found.err!r}"
         if out is None:
-            record = json.loads(found.out.partition(b"\n")[0])
+            record = json.loads(found.out.partition(b"\n")[0] or b"{}")
             assert {it: record.get(it) for it in facts} == facts, words
         else:
             assert found.out.decode() == out, words
@@ -71,9 +71,9 @@ class Meanwhile:
         setattr(dnorm.files, "opened", self._opened)
         setattr(dnorm.files, "mark_of", self._mark_of)
 
-    def _open(self, path: Any) -> Any:
+    def _open(self, path: Any, limit: Any) -> Any:
         self.counts[path] = self.counts.get(path, 0) + 1
-        return self._opened(path)
+        return self._opened(path, limit)
 
     def _mark(self, file: Any) -> Any:
         found = self._mark_of(file)

@@ -79,9 +79,9 @@ def test_of_collection(tested: str) -> None:
         assert it["status"] == "accepted", name
         assert re.fullmatch(remarks[name] or "", ", ".join(it["remarks"])), it
         is_companion = re.search(r"\.(ss|p2p|co)(\.|$)", name.lower())
-        assert bool(is_companion) != (it["partners"] is None), name
-    assert of["coll/good.ss"]["partners"] == ["coll/good.gr.gz"]
-    assert of["coll/lone.ss"]["partners"] == []
+        assert bool(is_companion) != (it["graphs"] is None), name
+    assert of["coll/good.ss"]["graphs"] == ["coll/good.gr.gz"]
+    assert of["coll/lone.ss"]["graphs"] == []
     statuses = [it["status"] for it in found]
     counts = {it: statuses.count(it) for it in ("accepted", "refused", "failed")}
     counts |= {"other_files": len(OTHERS), "status": 4}

@@ -1,6 +1,8 @@
-"""Tests what people who read results get: causes of refusals, lists of names, lists of what texts contain, differences,
-manifests of folders, links, and names on a terminal."""
+"""Tests what people who read results get: causes of refusals, lists of names, time limits, lists of what texts contain,
+differences, manifests of folders, links, and names on a terminal."""
 
+import contextlib
+import csv
 import gzip
 import io
 import json
@@ -9,7 +11,9 @@ import pickle
 import re
 import signal
 import sys
+import time
 from collections.abc import Callable
+from fractions import Fraction
 from typing import Any
 from xml.etree import ElementTree
 
@@ -18,11 +22,14 @@ from collection import zstd
 from known import COSTS, FLOWS, ROADS, ROADS_CANON
 from needs import leave_out
 from shared import ROOT, bytes_of, python_with, run, said, write
-from test_calls import ALL, BOTH, COMPRESS, READS, told
+from test_calls import ALL, BOTH, COMPRESS, READS, fake, told
 from test_folders import ENVIRONMENT, make, module, on_terminal
 
 import dnorm
 import dnorm.reader
+from dnorm.files import Text
+from dnorm.library import Status, held
+from dnorm.limits import Limit
 
 pytestmark = READS
 INFINITE = float("inf")
@@ -82,8 +89,10 @@ def test_causes() -> None:
             found = (error.number, error.node, error.text, error.hint)
             assert found == (35, 9, None, "line 4 names it: q 3 +009"), "a companion"
     first = dnorm.Refused("a.gr", 3, 13, "NodeOutOfRange", None, "a 1 3 7", "NODES 2: nodes count from 1")
-    again = pickle.loads(pickle.dumps(first))
-    assert (str(again), vars(again)) == (str(first), vars(first)), "pickled"
+    found_: list[dnorm.DnormError] = [first, dnorm.TimedOut("a.gr", 2.5)]
+    for it in found_:
+        again = pickle.loads(pickle.dumps(it))
+        assert (str(again), vars(again)) == (str(it), vars(it)), f"{it!r}, pickled"
     long = b"c\n" * 300_000
     write("t.gr", long + b"x" * 100_000 + b"\n")
     try:
@@ -148,6 +157,14 @@ def test_hints_of_failures() -> None:
         assert (error.number, error.hint) == (36, wanted), "swapped arguments"
     found = run([f"{ROOT}/dnorm-explain"], b"a.gr: 36 NotKinds\n", env={**os.environ, **ENVIRONMENT})
     assert wanted.encode() in found.out, f"dnorm-explain of 36: {found.out!r}"
+
+
+def test_odd_names_in_csv() -> None:
+    odd = ["c\r.gr", "d\n.gr", 'e",.gr']
+    for it in odd:
+        write(it, ROADS)
+    rows = list(csv.DictReader(io.StringIO(module("list", "--csv", *odd).out.decode(), newline="")))
+    assert [(it["name"], it["kind"]) for it in rows] == [(it, "sp") for it in odd], "odd names in CSV"
 
 
 def test_compressions() -> None:
@@ -295,37 +312,122 @@ def test_names_given() -> None:
     ), "a name without a character"
 
 
-def ring(*_: object) -> None:
-    raise TimeoutError("mine")
-
-
 @BOTH
-def test_alarm() -> None:
-    """An alarm of the caller ends a call that waits for a FIFO, with the error of its handler."""
+def test_time_limits() -> None:
+    """Calls and commands that take too long: a program, a FIFO without a writer, and one whose writer waits."""
+    slow = fake("slow", "exec sleep 60")
     os.mkfifo("pipe.gr")
+    os.mkfifo("pipe.gr.gz")
+    write("t.gr", ROADS)
+    rows: list[tuple[str, Callable[[], object], str]] = [
+        ("a slow program", lambda: dnorm.check("t.gr", program=slow, timeout=0.3), "t.gr"),
+        ("a slow program and bytes", lambda: dnorm.canon(b"c" * 10**6, program=slow, timeout=0.3), "-"),
+        ("a FIFO", lambda: dnorm.canon("pipe.gr", timeout=0.3), "pipe.gr"),
+        ("a compressed FIFO", lambda: dnorm.checksum("pipe.gr.gz", timeout=0.3), "pipe.gr.gz"),
+        ("a second FIFO", lambda: dnorm.compare("t.gr", "pipe.gr", timeout=0.3), "t.gr"),
+        ("no time", lambda: dnorm.read("t.gr", timeout=0), "t.gr"),
+        ("differences", lambda: dnorm.differences("t.gr", "t.gr", program=slow, timeout=0.3), "t.gr"),
+    ]
+    with open("pipe.gr", "rb+", buffering=0), open("pipe.gr.gz", "rb+", buffering=0) as file:
+        file.write(gzip.compress(ROADS)[:20])
+        waiting = [*rows]
+        before(waiting)
+    before(rows)
     kept = signal.signal(signal.SIGALRM, ring)
     signal.setitimer(signal.ITIMER_REAL, 0.2)
-    with pytest.raises(TimeoutError, match="mine"):
+    try:
         dnorm.check("pipe.gr")
+        pytest.fail("a FIFO is opened")
+    except TimeoutError as error:
+        assert str(error) == "mine", "an alarm while a FIFO is opened"
     signal.signal(signal.SIGALRM, kept)
+    in_time = [
+        dnorm.check("t.gr", timeout=60).kind,
+        dnorm.canon("t.gr", timeout=60),
+        dnorm.read("t.gr", timeout=60).kind,
+    ]
+    assert in_time == ["sp", ROADS_CANON, "sp"], "calls in time"
+    found = module("check", "--timeout", "0.5", "t.gr", "pipe.gr")
+    lines = "pipe.gr: took more than 0.5 seconds\n"
+    assert found == said(f"{lines}t.gr: accepted sp\n", f"{lines}1 accepted, 0 refused, 1 failed\n", 4), "--timeout"
+
+
+def ring(*_: object) -> None:
+    raise TimeoutError("mine")
 
 
 def lack_memory(*_: object) -> None:
     raise MemoryError
 
 
-@BOTH
-def test_little_memory(monkeypatch: pytest.MonkeyPatch) -> None:
-    monkeypatch.setattr(dnorm.reader, "instance", lack_memory)
+class SlowLibrary:
+    """Stands for a library whose last step takes a second. It says how often it was freed."""
+
+    def __init__(self) -> None:
+        self.freed = 0
+        self.begin = self.feed = lambda *_: Status()
+
+    def finish(self, _: object) -> Any:
+        time.sleep(1)
+        return Status()
+
+    def free(self, _: object) -> None:
+        self.freed += 1
+
+
+def test_long_steps() -> None:
+    """A step of the library that takes long ends no later than the limit, and frees its memory at its end."""
+    library: Any = SlowLibrary()
+    start = time.monotonic()
+    with contextlib.ExitStack() as stack:
+        text = Text(ROADS, stack, Limit(0.2, "-"))
+        found = told(lambda: stack.enter_context(held(library, text)))
+    took = time.monotonic() - start
+    assert (found, library.freed) == ("TimedOut: -: took more than 0.2 seconds", 0), "a long step"
+    assert took < 0.6, f"it takes {took} s"
+    time.sleep(1)
+    assert library.freed == 1, "it is freed once"
+    kept = dnorm.reader.instance
+    setattr(dnorm.reader, "instance", lack_memory)
     assert told(lambda: dnorm.read(ROADS)) == "Memory: -: 30 Memory", "little memory for columns"
+    setattr(dnorm.reader, "instance", kept)
+
+
+# Limits that no call takes.
+NO_LIMITS: list[Any] = [-1, INFINITE, -INFINITE, float("nan"), 1e300, 10**400, 10**9 + 1, "5", b"5", [5]]
+TIMED: list[Callable[[Any], object]] = [
+    lambda it: dnorm.check(ROADS, timeout=it), lambda it: dnorm.canon(ROADS, timeout=it),
+    lambda it: dnorm.canon_to(ROADS, io.BytesIO(), timeout=it), lambda it: dnorm.checksum(ROADS, timeout=it),
+    lambda it: dnorm.compare(ROADS, FLOWS, timeout=it), lambda it: dnorm.differences(ROADS, FLOWS, timeout=it),
+    lambda it: dnorm.read(ROADS, timeout=it), lambda it: dnorm.write(dnorm.read(ROADS), io.BytesIO(), timeout=it),
+]  # fmt: skip
 
 
 @ALL
 def test_limits() -> None:
+    """Limits that are no number of seconds, or one that no clock reaches, and the greatest limit."""
+    for call in TIMED:
+        for limit in NO_LIMITS:
+            wanted = "TypeError: timeout is a number of seconds, "
+            if isinstance(limit, (int, float)):
+                wanted = f"ValueError: timeout is at least 0 and at most 1000000000 seconds, and not {limit}"
+            found = told(lambda: call(limit))
+            assert found.startswith(wanted), found
+        for limit in [10**9, 1e9, Fraction(10**9)]:
+            assert told(lambda: call(limit)) == told(lambda: call(None)), "the greatest limit"
     for pairs in [-1, 1.5, INFINITE, "1"]:
         wanted = "ValueError: limit is at least 0, and not -1" if pairs == -1 else "TypeError: limit: "
         found = told(lambda: dnorm.differences(ROADS, FLOWS, pairs))  # type: ignore[arg-type]
         assert found.startswith(wanted), "a limit of pairs"
+
+
+def before(rows: list[tuple[str, Callable[[], object], str]]) -> None:
+    """Calls end soon."""
+    for what, call, name in rows:
+        start = time.monotonic()
+        timeout = "0" if what == "no time" else "0.3"
+        assert told(call) == f"TimedOut: {name}: took more than {timeout} seconds", what
+        assert time.monotonic() - start < 10, f"{what} ends soon"
 
 
 def test_folders_of_manifests() -> None:
@@ -413,7 +515,7 @@ LISTED: dict[str, tuple[bytes, str]] = {
 
 @BOTH
 def test_lists() -> None:
-    """Tests `list`: its lines and its JSON objects."""
+    """Tests `list`: its lines, its JSON objects and its table."""
     make({f"set/{name}": text for name, (text, _) in LISTED.items()})
     packed = b"c\n\tp sp  2 1\na 1 2 3\n"
     make({"set/h.gr.gz": gzip.compress(packed), "set/x.gr": b"x\n"})
@@ -436,6 +538,11 @@ def test_lists() -> None:
     wanted |= {"without_arcs": 3, "capacity": 6000000000, "capacity_times_cost": None, "supply": None, "demand": None}
     wanted |= {"fields": {"cap": {"least": 6000000000, "greatest": 6000000000, "bits": 53}}, "checksum": sums["c.max"]}
     assert {it: records[2][it] for it in wanted} == wanted, "a record"
+    found = module("list", "--csv", "set")
+    table = list(csv.DictReader(io.StringIO(found.out.decode())))
+    assert [(it["name"], it["checksum"]) for it in table] == [(f"set/{it}", sums[it]) for it in rows], "list --csv"
+    told_ = [table[1][it] for it in ["kind", "nodes", "cost_least", "cost_bits", "length_bits", "capacity_times_cost"]]
+    assert told_ == ["min", "4", "-2147483649", "32", "", str((2**63 - 1) * 2147483649 + 2)], "a row"
     (it,) = records_of("list", "--form", "2", "--json", "set/b.min")
     assert it["checksum"] == dnorm.checksum(LARGE, 2), "list --form 2"
 

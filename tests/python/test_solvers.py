@@ -253,11 +253,35 @@ def test_options() -> None:
     costs = dnorm.from_networkx(dnorm.Min, graph, capacity="room", weight=None)
     assert (costs.costs.tolist(), costs.caps.tolist()) == ([0, 0], [7, 8]), "costs"
     sparse: Any = importlib.import_module("scipy.sparse")
-    matrix = sparse.csr_matrix(([4, 0, 9], ([0, 1, 2], [2, 0, 2])), shape=(3, 3))
-    it = matrix.tocoo()
-    made = dnorm.from_arrays("sp", nodes=it.shape[0], tails=it.row + 1, heads=it.col + 1, lengths=it.data)
-    assert sorted(made.rows()) == [(1, 3, 4), (2, 1, 0), (3, 3, 9)], "a matrix"
-    assert abs(made.to_scipy() - matrix).sum() == 0, "there and back"
+    entries = ([4, 0, 9], ([0, 1, 2], [2, 0, 2]))
+    for matrix in [sparse.csr_matrix(entries, shape=(3, 3)), sparse.coo_matrix(entries, shape=(3, 3))]:
+        made = dnorm.from_scipy(dnorm.Sp, matrix)
+        assert sorted(made.rows()) == [(1, 3, 4), (2, 1, 0), (3, 3, 9)], "a matrix"
+        assert abs(made.to_scipy() - matrix).sum() == 0, "there and back"
+        flow = dnorm.from_scipy("max", matrix, source=1, sink=3)
+        assert (flow.source, flow.sink, flow.nodes) == (1, 3, 3), "terminals are nodes"
+        again = dnorm.from_scipy("max", flow.to_scipy(), source=flow.source, sink=flow.sink)
+        assert (again.source, again.sink, sorted(again)) == (1, 3, sorted(flow)), "there and back"
+    # Its types take none of these.
+    made_of: Any = dnorm.from_scipy
+    wrong: list[tuple[Any, Any, dict[str, int], str]] = [
+        ("sp", sparse.csr_matrix((2, 3), dtype=int), {}, "ValueError: the matrix is not square: its shape is (2, 3)"),
+        ("sp", sparse.csr_matrix([[0, 0.5], [0, 0]]), {},
+            "TypeError: the matrix has numbers of float64, as 0.5 in row "),
+        ("sp", sparse.csr_matrix([[7]]).toarray(), {}, "TypeError: a sparse matrix is wanted, and not ndarray: scipy."),
+        ("sp", [[7]], {}, "TypeError: a sparse matrix is wanted, and not list: "),
+        ("sp", sparse.coo_matrix(([3, 4], ([0, 0], [0, 0]))), {},
+            "ValueError: the matrix has two entries at one place"),
+        ("sp", sparse.csr_matrix([[1]]), {"sink": 1}, "TypeError: Sp takes no sink"),
+        ("max", sparse.csr_matrix([[1]]), {}, "TypeError: source and sink are missing: the nodes"),
+        ("max", flow.to_scipy(), {"source": 0, "sink": 2},
+            "ValueError: source is 0, which is no node of 1 to 3: nodes"),
+        ("max", flow.to_scipy(), {"source": 1, "sink": 4}, "ValueError: sink is 4, which is no node of 1 to 3: nodes"),
+        (dnorm.Min, sparse.csr_matrix([[1]]), {}, "TypeError: from_scipy makes Sp and Max, and not Min"),
+    ]  # fmt: skip
+    for kind, matrix, words, begin in wrong:
+        told_ = told(lambda: made_of(kind, matrix, **words))
+        assert told_.startswith(begin), f"{begin}: {told_}"
 
 
 def test_frames() -> None:

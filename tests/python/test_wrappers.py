@@ -1,10 +1,12 @@
 """Tests the Python package where the program is another command than `dnorm`: one of several words, one that runs it
 elsewhere, and one that pip installed; and where the system lacks calls of Linux."""
 
+import gzip
 import os
 import shlex
 import shutil
 import sys
+from collections.abc import Callable
 
 from known import ROADS, ROADS_CANON
 from shared import run, write
@@ -41,12 +43,40 @@ def test_words(tested: str) -> None:
 
 
 def test_elsewhere(tested: str) -> None:
-    """A wrapper that passes on only the standard streams reads one text."""
+    """A wrapper that passes on only the standard streams: a second text needs a folder for files."""
+    kept = os.environ["DNORM"]
     os.environ["DNORM"] = fake("wrapper", CONTAINER.format(shlex.quote(tested)))
     write("b.gr", ROADS_CANON)
+    write("b.gr.gz", gzip.compress(ROADS_CANON))
+    write("s.ss", SOURCES)
+    write("x.gr", b"p sp 2 1\na 1 3 5\n")
+    write("cut.gr.gz", gzip.compress(ROADS_CANON)[:-3])
     assert told(lambda: dnorm.check(ROADS)) == CHECKED, "one text"
     found = told(lambda: dnorm.compare(ROADS, "b.gr"))
-    assert found.startswith("Read: b.gr: 31 Read (the program cannot read /dev/fd/"), f"two texts: {found}"
+    hint = found.endswith("; if $DNORM is a wrapper, $DNORM_FILES may be needed)")
+    assert found.startswith("Read: b.gr: 31 Read (the program cannot read /dev/fd/") and hint, f"two texts: {found}"
+    os.mkdir("files")
+    calls: list[tuple[Callable[[], object], str]] = [
+        (lambda: dnorm.compare(ROADS, "b.gr"), "same\n"),
+        (lambda: dnorm.compare(ROADS, "b.gr.gz"), "same\n"),
+        (lambda: dnorm.compare("x.gr", "b.gr"), "Refused: x.gr:2: 13 NodeOutOfRange"),
+        (lambda: dnorm.compare("b.gr", "x.gr"), "Refused: x.gr:2: 13 NodeOutOfRange"),
+        (lambda: dnorm.compare("b.gr", b"x\n"), "Refused: -:1: 1 BadLine"),
+        (lambda: dnorm.compare("b.gr", "none"), "Read: none: 31 Read (No such file or directory)"),
+        (lambda: dnorm.compare("x.gr", "none"), "Refused: x.gr:2: 13 NodeOutOfRange"),
+        (lambda: dnorm.compare("b.gr", "cut.gr.gz"), "Read: cut.gr.gz: 31 Read (the compressed data end too early)"),
+        (lambda: dnorm.check(ROADS, "s.ss"), FITS),
+        (lambda: dnorm.check(ROADS, b"p aux sp ss 1\ns 9\n"), "Refused: -: 35 NotInGraph 9"),
+    ]
+    for folder in ["files", os.path.abspath("files")]:
+        os.environ["DNORM_FILES"] = folder
+        for call, wanted in calls:
+            assert (told(call), os.listdir("files")) == (wanted, []), f"two texts in {folder}"
+    os.environ["DNORM_FILES"] = "none"
+    found = told(lambda: dnorm.compare(ROADS, "b.gr"))
+    assert found.endswith(": 33 Write (No such file or directory)"), f"no folder: {found}"
+    del os.environ["DNORM_FILES"]
+    os.environ["DNORM"] = kept
 
 
 def test_installed(tested: str) -> None:

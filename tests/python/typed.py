@@ -72,7 +72,8 @@ def sums(graph: dnorm.Sp) -> tuple[int, int]:
 def by_others(graph: dnorm.Sp) -> str:
     """Returns what networkx, scipy and pandas say of a graph, whose edges are not parallel."""
     network, matrix, frame = graph.to_networkx(), graph.to_scipy(), graph.to_pandas()
-    least = int(dnorm.from_networkx("sp", network).lengths.min())
+    again = dnorm.from_networkx("sp", network), dnorm.from_scipy("sp", matrix)
+    least = min(int(it.lengths.min()) for it in again)
     return f"{network.number_of_edges()} edges, {matrix.nnz} entries, {len(frame)} rows, {least} the least"
 
 
@@ -92,6 +93,7 @@ def wrong(graph: dnorm.Sp) -> None:
     """Calls that a type checker refuses: mypy complains of a comment below that ignores nothing."""
     dnorm.canon(graph, 3)  # type: ignore[arg-type]
     dnorm.from_networkx("sp", graph.to_networkx(), source=1)  # type: ignore[call-overload]
+    dnorm.from_scipy("max", graph.to_scipy())  # type: ignore[call-overload]
 
 
 def main() -> int:

@@ -193,7 +193,7 @@ def many(count: int) -> Collection:
             error = Refused(name, 3, 9, "NotANumber", None, "a 1 2 x", "Scale to whole numbers; remove a fraction")
             records.append(Record(name, error=error))
         else:
-            records.append(Record(name, "sp", None, 20 * size, size // 4 + 1, size, size, 0, 3, sum_))
+            records.append(Record(name, "sp", (), None, 20 * size, size // 4 + 1, size, size, 0, 3, sum_))
     return Collection(tuple(records), {}, 0, 1)
 
 

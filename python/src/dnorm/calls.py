@@ -10,13 +10,16 @@ from typing import Optional, TypeVar, Union
 from .answers import AnyDifference, Checked, Form, Same, checked, compared
 from .files import File, Pieces, Sink, Target, enough_memory, name_of, sink_of
 from .instances import Instance
+from .limits import Limit
 from .names import KINDS, parts_of
 from .program import Program, run, unexpected
 
 Answer = TypeVar("Answer")
 
 
-def check(file: File, companion: Optional[File] = None, *, program: Program = None) -> Checked:
+def check(
+    file: File, companion: Optional[File] = None, *, program: Program = None, timeout: Optional[float] = None
+) -> Checked:
     """Checks a text, and with a companion that the companion fits.
 
     Returns the kind of the text, the kind of the companion, and the forms in which the text is canonical. Raises
@@ -26,21 +29,24 @@ def check(file: File, companion: Optional[File] = None, *, program: Program = No
         return ["check", name, *(["--with", *others] if others else [])]
 
     files = [file] if companion is None else [file, companion]
-    found = answer(checked, words, files, program)
+    found = answer(checked, words, files, program, Limit(timeout, name_of(file)))
     if bool(found.fits) != (companion is not None):
         raise unexpected(name_of(file), 0, str(found))
     return found
 
 
-def canon(file: File, form: Form = 1, *, program: Program = None) -> bytes:
+def canon(file: File, form: Form = 1, *, program: Program = None, timeout: Optional[float] = None) -> bytes:
     """Returns the canonical text of a text. `form` is 1 or 2, and matters only for `min`."""
     parts: list[bytes] = []
-    with enough_memory(name_of(file)):
-        canon_into(Sink("out", parts.append), file, form, program)
+    limit = Limit(timeout, name_of(file))
+    with enough_memory(limit.name):
+        canon_into(Sink("out", parts.append), file, form, program, limit)
         return b"".join(parts)
 
 
-def canon_to(file: File, target: Target, form: Form = 1, *, program: Program = None) -> None:
+def canon_to(
+    file: File, target: Target, form: Form = 1, *, program: Program = None, timeout: Optional[float] = None
+) -> None:
     """Writes the canonical text of a text to a path or a binary stream, without keeping it in memory.
 
     A path gets a new file once all of it is written, and keeps what it had if anything is raised; it may be the path of
@@ -48,18 +54,18 @@ def canon_to(file: File, target: Target, form: Form = 1, *, program: Program = N
     got a prefix of the text if writing fails. Raises `Write` then, and for a path that ends as other compressed files
     do."""
     with sink_of(target) as sink:
-        canon_into(sink, file, form, program)
+        canon_into(sink, file, form, program, Limit(timeout, name_of(file)))
 
 
-def checksum(file: File, form: Form = 1, *, program: Program = None) -> str:
+def checksum(file: File, form: Form = 1, *, program: Program = None, timeout: Optional[float] = None) -> str:
     """Returns the SHA-256 checksum of the canonical text, in hexadecimal digits. Texts that pose the same problem have
     the same checksum."""
     found = hashlib.sha256()
-    canon_into(Sink("out", found.update), file, form, program)
+    canon_into(Sink("out", found.update), file, form, program, Limit(timeout, name_of(file)))
     return found.hexdigest()
 
 
-def write(instance: Instance, target: Target, *, program: Program = None) -> None:
+def write(instance: Instance, target: Target, *, program: Program = None, timeout: Optional[float] = None) -> None:
     """Writes a text that poses the problem of an instance, with its arcs or items in their order, to a path or a binary
     stream, as `canon_to` does. The text of an instance that was read is the canonical text.
 
@@ -77,15 +83,15 @@ def write(instance: Instance, target: Target, *, program: Program = None) -> Non
             yield piece
 
     with sink_of(target) as sink:
-        canon_into(Sink("out", len), Pieces(sink.name, copied()), 1, program)
+        canon_into(Sink("out", len), Pieces(sink.name, copied()), 1, program, Limit(timeout, sink.name))
 
 
 def canon_into(
-    sink: Sink, file: File, form: int, program: Program, watch: Optional[Callable[[bytes], object]] = None
+    sink: Sink, file: File, form: int, program: Program, limit: Limit, watch: Optional[Callable[[bytes], object]] = None
 ) -> None:
     """Writes the canonical text of a text into a sink. `watch` takes the pieces of the text."""
     check_form(form)
-    status = run(lambda name: ["canon", "--form", str(int(form)), name], [file], sink, program, watch)
+    status = run(lambda name: ["canon", "--form", str(int(form)), name], [file], sink, program, limit, watch)
     if status:
         raise unexpected(name_of(file), status, "")
 
@@ -96,18 +102,24 @@ def check_form(form: int) -> None:
         raise ValueError(f"form is 1 or 2, and not {form!r}")
 
 
-def compare(left: File, right: File, *, program: Program = None) -> Union[Same, AnyDifference]:
+def compare(
+    left: File, right: File, *, program: Program = None, timeout: Optional[float] = None
+) -> Union[Same, AnyDifference]:
     """Returns `Same` if both texts pose the same problem, or else their first `Difference`. As a condition, `Same` is
     true and a `Difference` is false."""
-    return answer(compared, lambda *names: ["compare", *names], [left, right], program)
+    return answer(compared, lambda *names: ["compare", *names], [left, right], program, Limit(timeout, name_of(left)))
 
 
 def answer(
-    read: Callable[[str], Answer], words: Callable[..., Sequence[str]], files: Sequence[File], program: Program
+    read: Callable[[str], Answer],
+    words: Callable[..., Sequence[str]],
+    files: Sequence[File],
+    program: Program,
+    limit: Limit,
 ) -> Answer:
     """Returns what the lines say that the program prints for these files."""
     parts: list[bytes] = []
-    status = run(words, files, Sink("out", parts.append), program)
+    status = run(words, files, Sink("out", parts.append), program, limit)
     out = b"".join(parts).decode("ascii", "backslashreplace")
     try:
         found = read(out)

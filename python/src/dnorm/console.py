@@ -7,14 +7,18 @@ import contextlib
 import os
 import re
 import signal
+import threading
+import time
 from collections.abc import Callable, Iterator
 from typing import NoReturn
 
 from .errors import Write
-from .files import reason_of, write_all
+from .files import progress, reason_of, write_all
 
 # The signals that end a run.
 SIGNALS = (signal.SIGINT, signal.SIGTERM, signal.SIGHUP, signal.SIGQUIT)
+# The columns of a full progress bar, and the time between two drawings in seconds.
+BAR, PAUSE = 30, 0.1
 
 
 class Stopped(BaseException):
@@ -65,15 +69,45 @@ def has_output() -> bool:
 
 
 class Console:
-    """Standard output and standard error."""
+    """Standard output and standard error. A progress bar is drawn on standard error while it is a terminal and tasks
+    run; their threads call `step`."""
 
     def __init__(self) -> None:
         self._out = open(1, "wb", buffering=0, closefd=False)
-        self._is_shown, self._is_terminal = os.isatty(1), os.isatty(2)
+        self._lock = threading.Lock()
+        self._is_shown, self.is_terminal = os.isatty(1), os.isatty(2)
+        self._done = self._total = self._size = 0
+        self._drawn, self._at = "", 0.0
+
+    def expect(self, total: int, size: int = 0) -> None:
+        """Starts the progress bar for so many tasks, which read files of this size together, if that is known."""
+        self._done, self._total, self._size = 0, total, size
+
+    def step(self) -> None:
+        """Counts a task that has ended."""
+        with self._lock:
+            self._done += 1
+        self.draw()
+
+    def draw(self) -> None:
+        """Draws the progress bar, unless it was drawn just before."""
+        if not self.is_terminal:
+            return
+        with self._lock:
+            now = time.monotonic()
+            if now >= self._at + PAUSE:
+                self._at = now
+                filled = BAR * self._done // self._total
+                drawn = f"[{'#' * filled}{'.' * (BAR - filled)}] {self._done} of {self._total}"
+                if self._size:
+                    drawn += f", {min(100, 100 * progress.so_far() // self._size)} %"
+                self._complain(f"\r{drawn.ljust(len(self._drawn))}")
+                self._drawn = drawn
 
     def print(self, text: str) -> None:
         """Writes text to standard output. Raises Write if that fails, and Stopped if nothing reads it any more: then
         the run ends as other programs do."""
+        self.hide()
         try:
             write_all(self._out, os.fsencode(for_terminal(text) if self._is_shown else text))
         except BrokenPipeError as error:
@@ -83,8 +117,19 @@ class Console:
 
     def complain(self, text: str) -> None:
         """Writes text to standard error. It does not matter if that fails."""
+        self.hide()
+        self._complain(for_terminal(text) if self.is_terminal else text)
+
+    def hide(self) -> None:
+        """Removes the progress bar until it is drawn again."""
+        with self._lock:
+            if self._drawn:
+                self._complain("\r" + " " * len(self._drawn) + "\r")
+            self._drawn = ""
+
+    def _complain(self, text: str) -> None:
         with contextlib.suppress(OSError):
-            os.write(2, os.fsencode(for_terminal(text) if self._is_terminal else text))
+            os.write(2, os.fsencode(text))
 
 
 def for_terminal(text: str) -> str:

@@ -88,6 +88,18 @@ class Killed(DnormError):
         return f": dnorm was ended by signal {self.signal}{names.get(self.signal, '')}"
 
 
+class TimedOut(DnormError):
+    """A call took longer than its `timeout`, in seconds."""
+
+    def __init__(self, name: str, timeout: float) -> None:
+        super().__init__(name, timeout)
+        self.timeout = timeout
+
+    @property
+    def rest(self) -> str:
+        return f": took more than {self.timeout:g} seconds"
+
+
 class Failed(DnormError):
     """The base of the errors that have a `reason`."""
 

@@ -8,6 +8,7 @@ import io
 import os
 import secrets
 import stat
+import threading
 from collections.abc import Callable, Iterable, Iterator
 from typing import BinaryIO, Optional, Protocol, Union
 
@@ -15,6 +16,7 @@ from .causes import SHOWN, Cause, cause_of, hint_of_compressed, hint_of_missing
 from .compressed import SIZE, Compressed, compression_of, compressor_of, pieces
 from .errors import DnormError, Memory, Read, Refused, Write
 from .instances import Instance
+from .limits import Limit, Timed
 
 # A line that no text has. It ends a text whose reading failed, so that the program refuses the text.
 BAD_LINE = b"\n?\n"
@@ -133,9 +135,19 @@ def failed(error: Read) -> Iterator[bytes]:
     yield
 
 
-def opened(path: str | os.PathLike[str] | os.PathLike[bytes]) -> io.FileIO:
-    """Opens a file."""
-    return open(path, "rb", buffering=0)
+def opened(path: str | os.PathLike[str] | os.PathLike[bytes], limit: Limit) -> io.FileIO:
+    """Opens a file within a limit."""
+    if limit.seconds is None:
+        return open(path, "rb", buffering=0)
+    # Opening a FIFO waits for its writer, which nothing could end.
+    file = open(path, "rb", buffering=0, opener=lambda it, flags: os.open(it, flags | os.O_NONBLOCK))
+    try:
+        Timed(file, limit).wait()
+        os.set_blocking(file.fileno(), True)
+    except BaseException:
+        file.close()
+        raise
+    return file
 
 
 def mark_of(file: BinaryIO) -> tuple[int, int] | None:
@@ -144,13 +156,52 @@ def mark_of(file: BinaryIO) -> tuple[int, int] | None:
     return (found.st_size, found.st_mtime_ns) if stat.S_ISREG(found.st_mode) else None
 
 
+class Progress:
+    """How many bytes of files were read: those of the files that are closed, and of those that are open as far as they
+    are read, also by the program, which reads by the same open file."""
+
+    def __init__(self) -> None:
+        self._begin()
+        # A process that is forked has no thread that could release a lock.
+        os.register_at_fork(after_in_child=self._begin)
+
+    def _begin(self) -> None:
+        self._closed = 0
+        self._open: set[io.FileIO] = set()
+        self._lock = threading.Lock()
+
+    def begin(self, file: io.FileIO) -> None:
+        with self._lock:
+            self._open.add(file)
+
+    def end(self, file: io.FileIO) -> None:
+        with self._lock:
+            self._open.discard(file)
+            self._closed += place_in(file)
+
+    def so_far(self) -> int:
+        with self._lock:
+            return self._closed + sum(map(place_in, self._open))
+
+
+progress = Progress()
+
+
+def place_in(file: io.FileIO) -> int:
+    """Returns how far a file was read, or 0 if it has no places, as a pipe."""
+    try:
+        return file.tell()
+    except OSError:
+        return 0
+
+
 class Text:
     """A text that is read once, from its beginning: `is_file` says whether its bytes are those of an open file, and
     `is_compressed` whether a file is decompressed. The file of a path is opened once, and the stack closes it. `size`
     counts the bytes that were read."""
 
-    def __init__(self, file: File, stack: contextlib.ExitStack) -> None:
-        self.file, self.name = file, name_of(file)
+    def __init__(self, file: File, stack: contextlib.ExitStack, limit: Limit) -> None:
+        self.file, self.name, self.limit = file, name_of(file), limit
         self.is_path = isinstance(file, (str, os.PathLike))
         self.size = 0
         self._opened: io.FileIO | None = None
@@ -160,8 +211,10 @@ class Text:
                 if isinstance(file, str) and "\n" in file and not os.path.lexists(file):
                     raise TypeError("a str is a path, and there is no such file: give a text as bytes")
                 with failing(Read, self.name):
-                    self._opened = stack.enter_context(opened(file))
+                    self._opened = stack.enter_context(opened(file, limit))
                     self._mark = mark_of(self._opened)
+                progress.begin(self._opened)
+                stack.callback(progress.end, self._opened)
             self.text = self._begun()
         except Read as error:
             if isinstance(file, (str, os.PathLike)):
@@ -171,6 +224,7 @@ class Text:
         self.is_file = isinstance(self.text, io.FileIO)
         self.is_compressed = self.is_path and not self.is_file
         self._pieces: Iterator[bytes] | None = None
+        self._is_stopped = False
 
     def _begun(self) -> io.FileIO | Iterator[bytes]:
         """Returns the file whose bytes are the text, or the pieces of the text."""
@@ -191,7 +245,7 @@ class Text:
     def _decompressed(self, file: io.FileIO, ending: str) -> Iterator[bytes]:
         """Yields what the file decompresses to, in pieces."""
         try:
-            yield from pieces(file, ending)
+            yield from pieces(Timed(file, self.limit), ending)
         except (OSError, EOFError) as error:
             head = os.pread(file.fileno(), SHOWN, 0) if self._mark else b""
             hint = hint_of_compressed(head, self.name) if self._mark else None
@@ -199,6 +253,8 @@ class Text:
 
     def next_piece(self) -> bytes | None:
         """Returns the next piece, if there is one."""
+        if self._is_stopped:
+            raise Read(self.name, "it is no longer wanted")
         if self._pieces is None:
             self._pieces = self._all(self.text)
         with failing(Read, self.name):
@@ -208,7 +264,13 @@ class Text:
 
     def _all(self, text: io.FileIO | Iterator[bytes]) -> Iterator[bytes]:
         """Returns the pieces of the text."""
-        return of_stream(text) if isinstance(text, io.FileIO) else text
+        if not isinstance(text, io.FileIO):
+            return text
+        return of_stream(text) if self.limit.seconds is None else of_stream(Timed(text, self.limit))
+
+    def stop(self) -> None:
+        """Lets reading the text fail from the next piece on, for a thread whose answer is no longer wanted."""
+        self._is_stopped = True
 
     def stay_same(self) -> None:
         """Raises Read if the file of the text was written since it was opened."""
@@ -234,28 +296,48 @@ class Text:
 
 class Source(Text):
     """A text that the program reads from `end`, whose descriptor is `fd` and whose path is `place`. That is the file
-    itself, if its bytes are the text and nobody watches them, or else the end of a pipe that `feed` writes to.
-    `failure` is why reading the text failed, and `sure` is the number of its lines that were read whole before. `watch`
-    takes each piece."""
+    itself, if its bytes are the text and nobody watches them, or else the end of a pipe that `feed` writes to; but if a
+    folder is given, it is a file of its own there, which has the text already. `failure` is why reading the text
+    failed, and `sure` is the number of its lines that were read whole before. `watch` takes each piece."""
 
-    def __init__(self, file: File, stack: contextlib.ExitStack, watch: Callable[[bytes], object] | None = None) -> None:
-        super().__init__(file, stack)
+    def __init__(
+        self,
+        file: File,
+        stack: contextlib.ExitStack,
+        limit: Limit,
+        folder: str | None = None,
+        watch: Callable[[bytes], object] | None = None,
+    ) -> None:
+        super().__init__(file, stack, limit)
         self.watch, self.sure = watch, 0
         self.failure: Read | None = None
         self._into: BinaryIO | None = None
         with contextlib.ExitStack() as first:
-            self.end = stack.enter_context(beyond_standard(self._first_end(first, stack)))
+            self.end = stack.enter_context(beyond_standard(self._first_end(folder, first, stack)))
         self.fd = self.end.fileno()
-        self.place = f"/dev/fd/{self.fd}"
+        if folder is None:
+            self.place = f"/dev/fd/{self.fd}"
 
-    def _first_end(self, first: contextlib.ExitStack, stack: contextlib.ExitStack) -> BinaryIO:
+    def _first_end(self, folder: str | None, first: contextlib.ExitStack, stack: contextlib.ExitStack) -> BinaryIO:
         """Returns what `end` reads. `first` closes it, except for the file of the text, which stays open: the cause of
         a refusal is looked for in it."""
+        if folder is not None:
+            self.place = self._into_file(folder, stack)
+            return first.enter_context(open(self.place, "rb", buffering=0))
         if isinstance(self.text, io.FileIO) and not self.watch:
             return self.text
         reads, writes = os.pipe()
         self._into = stack.enter_context(open(writes, "wb", buffering=0))
         return first.enter_context(open(reads, "rb", buffering=0))
+
+    def _into_file(self, folder: str, stack: contextlib.ExitStack) -> str:
+        """Writes the text into a file of its own in a folder, and returns the path. The stack removes the file."""
+        place = os.path.join(os.path.abspath(folder), f"dnorm-{secrets.token_hex(8)}")
+        with failing(Write, place):
+            self._into = stack.enter_context(open(place, "xb", buffering=0))
+            stack.callback(os.unlink, place)
+            self.feed()
+        return place
 
     def feed(self) -> None:
         """Writes the text into the pipe, until the program reads no more of it. If reading the text fails, ends it with
@@ -264,6 +346,7 @@ class Source(Text):
             return
         try:
             while (piece := self.next_piece()) is not None:
+                self.limit.left()
                 if self.watch:
                     self.watch(piece)
                 is_taken = takes(self._into, piece)

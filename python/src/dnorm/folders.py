@@ -7,12 +7,14 @@ from collections.abc import Iterable, Sequence
 from concurrent.futures import ThreadPoolExecutor
 from dataclasses import dataclass
 from fnmatch import fnmatchcase
-from typing import NamedTuple, TypeVar, Union
+from typing import NamedTuple, Optional, TypeVar, Union
 
 from .answers import Form, table
+from .calls import check_form
 from .errors import DnormError, Read
 from .files import reason_of
 from .library import library_of
+from .limits import check_seconds
 from .manifests import Manifest
 from .names import ENDINGS, is_text, misnamed_text
 from .program import Program, processors
@@ -135,13 +137,20 @@ class Collection:
 
 
 def check_folder(
-    *paths: Union[str, os.PathLike[str]], exclude: Sequence[str] = (), form: Form = 1, program: Program = None
+    *paths: Union[str, os.PathLike[str]],
+    exclude: Sequence[str] = (),
+    form: Form = 1,
+    program: Program = None,
+    timeout: Optional[float] = None,
 ) -> Collection:
     """Checks the texts of folders, and that companions fit the graphs of their names, as `dnorm-files check
     --companions` does. Reads each file once, as many at the same time as there are processors. Raises no error for a
-    file that is refused or cannot be read: its record has it."""
+    file that is refused, cannot be read, or takes more than `timeout` seconds: its record has it."""
+    check_form(form)
+    if timeout is not None:
+        check_seconds(timeout)
     found = find([os.fspath(it) for it in paths], ENDINGS, exclude)
-    reading = Reading(program, library_of(program), form, Partners(found.files))
+    reading = Reading(program, library_of(program), form, Partners(found.files), timeout=timeout)
 
     def record(name: str) -> Record:
         error = found.files[name]

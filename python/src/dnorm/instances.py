@@ -8,8 +8,8 @@ import re
 from array import array
 from collections.abc import Iterator, Mapping
 from dataclasses import dataclass, fields
-from itertools import islice
-from typing import TYPE_CHECKING, Any, ClassVar, Generic, Literal, NoReturn, TypeVar, Union, overload
+from itertools import accumulate, islice
+from typing import TYPE_CHECKING, Any, ClassVar, Generic, Literal, NamedTuple, NoReturn, TypeVar, Union, overload
 
 from .answers import table
 from .columns import LEAST, MOST, Column, Own, are_same, column, column_of, frozen, least_and_greatest
@@ -177,6 +177,24 @@ def whole(name: str, number: Any) -> int:
     return found
 
 
+class Star(NamedTuple):
+    """The arcs of a graph by their nodes. Those with the tail v, counted from 1, have the indexes from `first[v - 1]`
+    to `first[v]`, without the last one. Those with the head v have the indexes `into[i]`, which ascend, for each i from
+    `into_first[v - 1]` to `into_first[v]`, without the last one."""
+
+    first: Column
+    into_first: Column
+    into: Column
+
+
+def ends_of(nodes: int, ends: list[int]) -> Any:
+    """Returns how many of these nodes are at most 0, 1, 2 and so on to the last node."""
+    counts = array("q", bytes(8 * (nodes + 1)))
+    for it in ends:
+        counts[it] += 1
+    return column(array("q", accumulate(counts)))
+
+
 @dataclass(frozen=True, eq=False, repr=False)
 class Graph(Instance):
     """A graph with the nodes 1 to `nodes`. Arc i goes from `tails[i]` to `heads[i]`. The arcs of an instance that was
@@ -195,6 +213,16 @@ class Graph(Instance):
     def arcs(self) -> Iterator[tuple[int, ...]]:
         """Yields the arcs: tail, head, and the length, the capacity, or LOW, CAP and COST."""
         return self.rows()
+
+    def star(self) -> Star:
+        """Returns where the arcs of each node are, those from it and those into it, as a forward and a reverse star.
+        Raises ValueError if tails do not rise, as those of an instance that was read do, or an end is no node."""
+        self.check_ends()
+        tails, heads = self.tails.tolist(), self.heads.tolist()
+        if any(map(operator.gt, tails, tails[1:])):
+            raise ValueError("tails do not rise: dnorm.read of the text that dnorm.write makes sorts the arcs")
+        into = array("q", sorted(range(len(heads)), key=heads.__getitem__))
+        return Star(ends_of(self.nodes, tails), ends_of(self.nodes, heads), column(into))
 
     def check_parallel(self, count: int) -> None:
         """Raises ValueError if what was made of the arcs has fewer of them, or an arc has an end that is no node."""

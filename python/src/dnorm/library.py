@@ -17,6 +17,7 @@ from .answers import AnyDifference, Difference, Same
 from .columns import column
 from .errors import DnormError, Endless, Memory, NoProgram, Refused
 from .files import Text
+from .limits import Lease
 from .program import Program, children, command, script_folders, unexpected, with_cause
 from .refusals import REFUSALS
 
@@ -34,7 +35,8 @@ WHAT = ["same", "kind", "nodes", "supply", "source", "sink", "pair", "items", "i
 OF_PAIR = {"sp": "length", "max": "capacity", "min": "cost"}
 # Some codes, and the place of a status that has a line.
 FINE, MEMORY, NOT_IN_GRAPH, AT_LINE = 0, 30, 35, 1
-# How many arcs, items or arc lines, and how many bytes, are copied at a time.
+# How many arcs, items or arc lines, and how many bytes, are copied at a time. Between two calls it is seen whether the
+# time is over.
 ROOM, BYTES = 1 << 14, 1 << 16
 # A text of so many bytes has no end, as the program says it.
 ENDLESS = 1 << 40
@@ -148,10 +150,10 @@ def find_library(program: Program = None) -> Optional[str]:
 
 class Held:
     """An instance that the library has read of a text: its kind, `nodes`, the numbers of counted `lines` that were read
-    and of `pairs` with arcs, and its numbers as columns."""
+    and of `pairs` with arcs, and its numbers as columns. Calls take the lease that may go on after the instance."""
 
-    def __init__(self, library: Library, handle: Any, text: Text) -> None:
-        self._library, self._handle, self._text = library, handle, text
+    def __init__(self, library: Library, handle: Any, text: Text, lease: Lease) -> None:
+        self._library, self._handle, self._text, self._lease = library, handle, text, lease
         facts = library.facts(handle)
         self.kind, self._width = KINDS[facts.kind]
         self.nodes: int = facts.nodes
@@ -204,6 +206,7 @@ class Held:
         for done in range(0, count, ROOM):
             more = self._counted(call(ctypes.byref(place), room.buffer_info()[0], min(ROOM, count - done)))
             yield done, memoryview(room)[: numbers * more]
+            self._text.limit.left()
 
     def _counted(self, found: Any) -> int:
         """Returns the count of a call. Raises an error if it has another code than that of success."""
@@ -214,21 +217,25 @@ class Held:
     def checksum(self, form: int) -> str:
         """Returns the SHA-256 checksum of the canonical text in a form."""
         library, found, text = self._library, hashlib.sha256(), Handle()
+        lease = Lease(lambda: library.free(ctypes.byref(text)))
         try:
-            status = library.canon(self._handle, form, ctypes.byref(text))
+            make = functools.partial(library.canon, self._handle, form, ctypes.byref(text))
+            status = self._text.limit.during(make, self._lease, lease)
             if status.code != FINE:
                 raise error_of(status, self._text)
             at, room = 0, ctypes.create_string_buffer(BYTES)
             while more := library.text(ctypes.byref(text), at, room, BYTES).count:
+                self._text.limit.left()
                 found.update(ctypes.string_at(room, more))
                 at += more
         finally:
-            library.free(ctypes.byref(text))
+            lease.end()
         return found.hexdigest()
 
     def first_difference(self, right: Held) -> Same | AnyDifference:
         """Returns where this instance and another one first differ."""
-        found = self._library.compare(self._handle, right._handle)
+        compare = functools.partial(self._library.compare, self._handle, right._handle)
+        found = self._text.limit.during(compare, self._lease, right._lease)
         what = WHAT[found.what]
         if what == "same":
             return Same()
@@ -299,18 +306,20 @@ def held(library: Library, text: Text, lines: LinesRead | None = None) -> Iterat
     """Reads a text, and its arc lines if they are wanted, and frees its instance at the end."""
     handle = Handle()
     address = ctypes.byref(handle)
+    lease = Lease(lambda: library.free(address))
     try:
         status, failed = library.begin(address), None
         if status.code == FINE:
             status = fed(library, address, text, lines)
         if status.code == FINE:
-            status = library.finish(address)
+            status = text.limit.during(functools.partial(library.finish, address), lease)
         if status.code == FINE:
-            yield Held(library, address, text)
+            text.limit.left()
+            yield Held(library, address, text, lease)
         else:
             failed = error_of(status, text)
     finally:
-        library.free(address)
+        lease.end()
     if failed:
         raise failed
 
@@ -320,6 +329,7 @@ def fed(library: Library, address: Any, text: Text, lines: LinesRead | None) -> 
     compressed file is read to its end, since only the end tells whether its lines are right."""
     status, size = Status(), 0
     while (piece := text.next_piece()) is not None:
+        text.limit.left()
         children.go_on()
         size += len(piece)
         if size >= ENDLESS:

@@ -15,6 +15,7 @@ from typing import NamedTuple, Optional
 from .answers import Form, table
 from .errors import Read
 from .files import File, Text, failing, name_of, reason_of
+from .limits import Limit
 from .names import KINDS
 from .records import Record
 
@@ -210,7 +211,7 @@ def read_manifest(file: File) -> Manifest:
 def manifest_in(file: File) -> tuple[dict[str, Entry], bool]:
     """Returns the entries of a manifest, and whether it says its form."""
     with failing(Read, name_of(file)), contextlib.ExitStack() as stack:
-        text = Text(file, stack)
+        text = Text(file, stack, Limit(None, name_of(file)))
         found = entries_of(os.fsdecode(b"".join(iter(text.next_piece, None))))
     return found
 

@@ -1,4 +1,4 @@
-"""Instances from graphs of networkx."""
+"""Instances from graphs of networkx and matrices of scipy."""
 
 from __future__ import annotations
 
@@ -154,3 +154,54 @@ def supplies_of(graph: Any, lows: Iterable[int], demand: str) -> dict[int, int]:
         flows[tail] += low
         flows[head] -= low
     return {node: flows[node] for node in sorted(flows) if flows[node]}
+
+
+@overload
+def from_scipy(kind: Union[Literal["sp"], type[Sp]], matrix: Any) -> Sp:
+    ...
+
+
+@overload
+def from_scipy(kind: Union[Literal["max"], type[Max]], matrix: Any, *, source: int, sink: int) -> Max:
+    ...
+
+
+def from_scipy(kind: Any, matrix: Any, *, source: Optional[int] = None, sink: Optional[int] = None) -> Any:
+    """Returns the `Sp` or `Max` that a sparse matrix of scipy is: the entry in row i and column j is the length or the
+    capacity of the arc from node i + 1 to node j + 1, also if it is stored and 0. `source` and `sink` are nodes, as in
+    `from_arrays`: they are greater by 1 than the rows that `scipy.sparse.csgraph.maximum_flow` takes.
+
+    Raises TypeError for what is no sparse matrix, for numbers that are not whole, and for terminals of `Sp`; ValueError
+    for a matrix that is not square, or has two entries at one place; and OverflowError for numbers that do not fit into
+    64 bits."""
+    made = class_of(kind)
+    if made not in (Sp, Max):
+        raise TypeError(f"from_scipy makes Sp and Max, and not {made.__name__}")
+    check_terminals(made, {"source": source, "sink": sink})
+    entries = entries_of(matrix)
+    # The indices may have 32 bits, which hold one more than the last one.
+    values = {"nodes": entries.shape[0], "tails": entries.row + 1, "heads": entries.col + 1}
+    if made is Sp:
+        return from_arrays(Sp, lengths=entries.data, **values)
+    if source is None or sink is None:
+        raise TypeError("source and sink are missing: the nodes of the terminals, which count from 1")
+    return from_arrays(Max, capacities=entries.data, source=source, sink=sink, **values)
+
+
+def entries_of(matrix: Any) -> Any:
+    """Returns a sparse matrix as its entries, if each is a whole number with a place of its own."""
+    if not hasattr(matrix, "tocoo"):
+        hint = "scipy.sparse.csr_matrix(..) makes one, without the entries that are 0"
+        raise TypeError(f"a sparse matrix is wanted, and not {type(matrix).__name__}: {hint}")
+    entries = matrix.tocoo()
+    if len(entries.shape) != 2 or entries.shape[0] != entries.shape[1]:
+        raise ValueError(f"the matrix is not square: its shape is {entries.shape}")
+    if entries.nnz and entries.data.dtype.kind not in "iu":
+        first = f"{entries.data[0]} in row {entries.row[0]} and column {entries.col[0]}"
+        hint = "matrix.astype(int) rounds towards 0"
+        raise TypeError(f"the matrix has numbers of {entries.data.dtype}, as {first}, and not of int: {hint}")
+    alone = entries.copy()
+    alone.sum_duplicates()
+    if alone.nnz != entries.nnz:
+        raise ValueError("the matrix has two entries at one place: matrix.sum_duplicates() adds them")
+    return entries

@@ -12,6 +12,7 @@ from typing import Any, NamedTuple
 
 from .columns import column, numpy_here
 from .instances import Graph, Instance
+from .limits import Limit
 
 # The columns of each kind: those of the key, and those of the values with their names.
 KEYS = {"min": ("tails", "heads"), "max": ("tails", "heads"), "sp": ("tails", "heads"), "co": ("ids",)}
@@ -21,6 +22,8 @@ VALUES = {
 }  # fmt: skip
 # Nodes up to this one have a number of 64 signed bits for each pair.
 MOST = 3_000_000_000
+# How many pairs are looked at between two looks at the time.
+STEP = 10_000
 
 Key = tuple[int, ...]
 # The values of the arcs of a pair. There are none if the text has no such pair.
@@ -94,19 +97,22 @@ def arcs_around(it: Graph, node: int) -> dict[Key, Arcs]:
     return found
 
 
-def paired(left: Instance, right: Instance, limit: int | None) -> dict[str, Any]:
+def paired(left: Instance, right: Instance, limit: int | None, time: Limit) -> dict[str, Any]:
     """Returns how the pairs of two instances of one kind differ, as attributes of `Differences`, with at most `limit`
     of the differing pairs. The instances are those of canonical texts. With numpy, pairs that are the same are left out
     first, which takes less time."""
+    time.left()
     ours, theirs, same = rows_of(left), rows_of(right), 0
     np = numpy_here()
     if np is not None and len(left) and len(right):
-        ours, theirs, same = without_same(np, ours, theirs)
+        ours, theirs, same = without_same(np, ours, theirs, time)
     counts = Counter(both=same)
     fields: Counter[str] = Counter()
     shared: list[PairDifference] = []
     alone: list[PairDifference] = []
-    for key, one, other in merged(pairs_of(ours), pairs_of(theirs)):
+    for at, (key, one, other) in enumerate(merged(pairs_of(ours), pairs_of(theirs))):
+        if at % STEP == 0:
+            time.left()
         where = "both" if one and other else "only_left" if one else "only_right"
         counts[where] += 1
         if one == other:
@@ -124,13 +130,15 @@ def paired(left: Instance, right: Instance, limit: int | None) -> dict[str, Any]
     return {**counts, "fields": tuple(fields.most_common()), "reversed": turned, "pairs": pairs}
 
 
-def without_same(np: Any, left: Rows, right: Rows) -> tuple[Rows, Rows, int]:
+def without_same(np: Any, left: Rows, right: Rows, time: Limit) -> tuple[Rows, Rows, int]:
     """Returns the rows of the pairs that are not the same in both texts, and how many are the same."""
     if len(left.keys) > 1 and any(int(it.max()) > MOST for it in (*left.keys, *right.keys)):
         return left, right, 0
     ours, theirs = (it.keys[0] if len(it.keys) == 1 else it.keys[0] * (MOST + 1) + it.keys[1] for it in (left, right))
     unlike = [without_equal(np, ours, left, theirs, right)]
+    time.left()
     unlike.append(without_equal(np, theirs, right, ours, left))
+    time.left()
     pairs = np.unique(np.concatenate(unlike))
     mask, other_mask = (np.isin(it, pairs) for it in (ours, theirs))
     return left.kept(mask), right.kept(other_mask), len(np.unique(ours[~mask]))

@@ -16,6 +16,7 @@ from typing import Any, Union
 from .compressed import SIZE
 from .errors import DnormError, Endless, Killed, Memory, NoProgram, Read, Refused, Unexpected, Write
 from .files import File, Sink, Source, Text, reason_of
+from .limits import Limit
 from .refusals import REFUSALS
 
 # The name or the path of the program, or a command that runs it; or None for $DNORM, the scripts of pip, and PATH.
@@ -203,21 +204,26 @@ def run(
     files: Sequence[File],
     sink: Sink,
     program: Program,
+    limit: Limit,
     watch: Callable[[bytes], object] | None = None,
 ) -> int:
     """Runs the program on files, hands its standard output to the sink, and returns the status 0 or 1. `words` returns
-    the arguments, given the names of the files, and `watch` takes the pieces of the first one. Any other status, and a
-    file whose reading fails, raise their error."""
+    the arguments, given the names of the files, and `watch` takes the pieces of the first one. Any other status, a file
+    whose reading fails, and a run that takes longer than the limit raise their error."""
     path = verified(program)
     with contextlib.ExitStack() as stack:
-        # The program reads the first text from its standard input, and the others from further descriptors.
-        sources = [Source(files[0], stack, watch), *(Source(it, stack) for it in files[1:])]
+        # The program reads the first text from its standard input, and the others from further descriptors, or from
+        # files where a wrapper does not pass descriptors on.
+        folder = os.environ.get("DNORM_FILES") or None
+        first = Source(files[0], stack, limit, watch=watch)
+        sources = [first, *(Source(it, stack, limit, folder) for it in files[1:])]
         names = ["-", *(it.place for it in sources[1:])]
         streams = {"stdin": sources[0].end, "stdout": sink.file or subprocess.PIPE, "stderr": subprocess.PIPE}
         others = [it.fd for it in sources[1:]]
         process = stack.enter_context(children.running([*path, *words(*names)], pass_fds=others, **streams))
-        err = talk(process, sources, sink)
-        status = status_of(process, sources[0].name)
+        with limit.over(process):
+            err = talk(process, sources, sink)
+            status = status_of(process, sources[0].name)
         error = error_of_run(status, err, dict(zip(names, sources)), sink.name)
         if error:
             raise error
@@ -320,6 +326,8 @@ def error_of(status: int, line: re.Match[str], source: Source | None, out: str) 
     if not source:
         return Memory("dnorm") if number == 30 and line["name"] == "dnorm" else None
     if number == 31 and line["name"] != "-":
-        return Read(source.name, f"the program cannot read {line['name']}")
+        is_wrapped = "DNORM" in os.environ and "DNORM_FILES" not in os.environ
+        hint = "; if $DNORM is a wrapper, $DNORM_FILES may be needed" if is_wrapped else ""
+        return Read(source.name, f"the program cannot read {line['name']}{hint}")
     kinds = {30: Memory, 31: Read, 32: Endless}
     return kinds[number](source.name) if number in kinds else None

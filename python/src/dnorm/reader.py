@@ -5,7 +5,7 @@ from __future__ import annotations
 import contextlib
 import re
 from array import array
-from typing import Any, Literal, Union, overload
+from typing import Any, Literal, Optional, Union, overload
 
 from .answers import Form
 from .calls import canon_into, check_form
@@ -14,6 +14,7 @@ from .errors import Unexpected
 from .files import File, Sink, Text, enough_memory, name_of
 from .instances import COUNTED, PROBLEM, AnyInstance, Co, Max, Min, P2p, Sp, Ss
 from .library import Held, Library, LinesRead, held, library_of
+from .limits import Limit
 from .lines import ArcLines, LinesOfText
 from .program import Program, unexpected
 
@@ -108,40 +109,51 @@ class Reader:
 
 
 @overload
-def read(file: File, form: Form = 1, *, lines: Literal[False] = False, program: Program = None) -> AnyInstance:
+def read(
+    file: File,
+    form: Form = 1,
+    *,
+    lines: Literal[False] = False,
+    program: Program = None,
+    timeout: Optional[float] = None,
+) -> AnyInstance:
     ...
 
 
 @overload
-def read(file: File, form: Form = 1, *, lines: Literal[True], program: Program = None) -> tuple[AnyInstance, ArcLines]:
+def read(
+    file: File, form: Form = 1, *, lines: Literal[True], program: Program = None, timeout: Optional[float] = None
+) -> tuple[AnyInstance, ArcLines]:
     ...
 
 
 def read(
-    file: File, form: Form = 1, *, lines: bool = False, program: Program = None
+    file: File, form: Form = 1, *, lines: bool = False, program: Program = None, timeout: Optional[float] = None
 ) -> Union[AnyInstance, tuple[AnyInstance, ArcLines]]:
     """Returns the instance that a text poses: an `Sp`, `Max`, `Min`, `Ss`, `P2p` or `Co`. `form` is 1 or 2, and matters
     only for `Min`. The library for C reads it where `find_library` finds it, and the program by its canonical text
     elsewhere. With `lines`, returns the instance and the arc lines of the text, which is read once."""
     check_form(form)
-    name, library = name_of(file), library_of(program)
-    with enough_memory(name):
+    limit, library = Limit(timeout, name_of(file)), library_of(program)
+    with enough_memory(limit.name):
         if library:
-            return read_by(library, file, int(form), lines)
-        reader, of_text = Reader(name), LinesOfText()
+            return read_by(library, file, int(form), lines, limit)
+        reader, of_text = Reader(limit.name), LinesOfText()
         watch = of_text.take if lines else None
-        canon_into(Sink("out", reader.take), file, form, program, watch)
+        canon_into(Sink("out", reader.take), file, form, program, limit, watch)
         found = reader.end()
         return (found, of_text.end()) if lines else found
 
 
-def read_by(library: Library, file: File, form: int, lines: bool) -> Union[AnyInstance, tuple[AnyInstance, ArcLines]]:
+def read_by(
+    library: Library, file: File, form: int, lines: bool, limit: Limit
+) -> Union[AnyInstance, tuple[AnyInstance, ArcLines]]:
     """Returns what `read` does, by a library."""
     reader = LinesRead(library) if lines else None
     with contextlib.ExitStack() as stack:
         if reader:
             stack.callback(reader.free)
-        found = instance_by(stack.enter_context(held(library, Text(file, stack), reader)), form)
+        found = instance_by(stack.enter_context(held(library, Text(file, stack, limit), reader)), form)
         columns = reader.end() if reader else []
     return (found, ArcLines(found.kind, *columns)) if reader else found
 

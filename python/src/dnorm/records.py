@@ -3,24 +3,25 @@
 from __future__ import annotations
 
 import contextlib
+import functools
 import hashlib
 import json
 import os
 import time
 from collections.abc import Callable, Iterable, Iterator, Sequence
 from dataclasses import dataclass
-from itertools import groupby
-from operator import eq, mul
-from typing import Literal, NamedTuple, Optional, Union
+from operator import mul
+from typing import Any, Literal, NamedTuple, Optional, Union
 
 from .answers import Form
 from .calls import canon_into, check
 from .causes import PROBLEM
-from .columns import Column, least_and_greatest
+from .columns import Column, least_and_greatest, numpy_here
 from .errors import DnormError, Memory, Read, Refused
 from .files import Sink, Text, enough_memory, reason_of
 from .instances import AnyInstance, Co, Graph, Min
 from .library import GRAPHS, Library, held
+from .limits import Limit
 from .names import COMPANIONS, KINDS, parts_of
 from .pairs import VALUES
 from .program import Program
@@ -30,8 +31,13 @@ from .reader import Reader, instance_by
 WITH_COMPANIONS = (".gr", ".sp")
 # The numbers of bits that readers and solvers have for a number without its sign.
 BITS = (31, 32, 53)
+# A graph with more nodes than so many for each arc has few nodes with arcs.
+SPARSE = 10
 # What a record has of a canonical text besides its checksum.
 SIZES = ("bytes", "nodes", "declared", "canonical", "merged", "self_loops")
+
+# What a record tells: the kind alone, or the checksum, too; or all but contents, or these besides.
+Tells = Literal["kind", "checksum", "whole", "contents"]
 
 
 class Range(NamedTuple):
@@ -58,15 +64,16 @@ class Contents(NamedTuple):
 class Record(NamedTuple):
     """What reading a file once tells. An accepted file has a `kind`, and any other one an `error`.
 
-    `bytes` is the size of the text, which may be behind a compression. `declared` is the number of counted lines, and
-    `canonical` that of the canonical text. `merged` counts the arcs besides the first of each ordered pair, and those
-    that mean nothing, and `self_loops` canonical arcs. `checksum` is that of the canonical text. `partners` are the
-    graphs of its name that a companion fits, and `not_accepted` those that are refused or cannot be read. `named` is
-    the kind that the ending of the name is for, if that is another one. What a kind does not have, or what was not
-    asked for, is None."""
+    `forms` are those in which the text is canonical. `bytes` is the size of the text, which may be behind a
+    compression. `declared` is the number of counted lines, and `canonical` that of the canonical text. `merged` counts
+    the arcs besides the first of each ordered pair, and those that mean nothing, and `self_loops` canonical arcs.
+    `checksum` is that of the canonical text. `graphs` are those of its name that a companion fits, and `not_accepted`
+    those that are refused or cannot be read. `named` is the kind that the ending of the name is for, if that is another
+    one. What a kind does not have, or what was not asked for, is None."""
 
     name: str
     kind: Optional[str] = None
+    forms: Optional[tuple[Form, ...]] = None
     error: Optional[DnormError] = None
     bytes: Optional[int] = None
     nodes: Optional[int] = None
@@ -75,7 +82,7 @@ class Record(NamedTuple):
     merged: Optional[int] = None
     self_loops: Optional[int] = None
     checksum: Optional[str] = None
-    partners: Optional[tuple[str, ...]] = None
+    graphs: Optional[tuple[str, ...]] = None
     not_accepted: tuple[str, ...] = ()
     named: Optional[str] = None
     seconds: float = 0
@@ -91,7 +98,7 @@ class Record(NamedTuple):
     @property
     def is_alone(self) -> bool:
         """Whether a companion has no graph of its name."""
-        return self.partners == () and not self.not_accepted
+        return self.graphs == () and not self.not_accepted
 
     @property
     def remarks(self) -> list[str]:
@@ -115,11 +122,14 @@ class Record(NamedTuple):
     def as_dict(self) -> dict[str, object]:
         """Returns the members of the JSON object."""
         found: dict[str, object] = {"name": self.name, "status": self.status, "kind": self.kind}
+        found["forms"] = self.forms
         found["error"] = f"{self.name}{self.what}" if self.error else None
         for it in ("line", "number", "word", "sentence", "text"):
             found[it] = getattr(self.error, it) if isinstance(self.error, Refused) else None
         found |= {"hint": self.hint, "remarks": self.remarks, **{it: getattr(self, it) for it in SIZES}}
-        found |= {"checksum": self.checksum, "partners": self.partners, "seconds": round(self.seconds, 6)}
+        found |= {"checksum": self.checksum, "graphs": self.graphs}
+        found["not_accepted"] = None if self.graphs is None else self.not_accepted
+        found["seconds"] = round(self.seconds, 6)
         if self.contents:
             fields = {field: it._asdict() for field, it in self.contents.fields.items()}
             found |= {**self.contents._asdict(), "fields": fields}
@@ -177,14 +187,16 @@ class Partners:
 class Reading:
     """How files are read: by this library, or else by the program. Checksums and sizes are those of the canonical text
     in a `form`. A record tells the kind alone, or the checksum, too; or it is whole, or has contents besides. With
-    partners, companions are checked beside their graphs. If it is strict, a file with a remark has an error."""
+    partners, companions are checked beside their graphs. If it is strict, a file with a remark has an error, and so has
+    one that takes more than `timeout` seconds."""
 
     program: Program
     library: Optional[Library]
     form: Form = 1
     partners: Optional[Partners] = None
     is_strict: bool = False
-    tells: Literal["kind", "checksum", "whole", "contents"] = "whole"
+    tells: Tells = "whole"
+    timeout: Optional[float] = None
 
     def record(self, name: str) -> Record:
         """Reads a file, and returns its record, also if that fails."""
@@ -215,18 +227,21 @@ class Reading:
         return found
 
     def _by_library(self, library: Library, name: str, graphs: Optional[Sequence[str]]) -> Record:
+        limit = Limit(self.timeout, name)
         with contextlib.ExitStack() as stack:
-            text = Text(name, stack)
+            is_whole = self.tells in ("whole", "contents")
+            text = SummedText(name, stack, limit) if is_whole else Text(name, stack, limit)
             it = stack.enter_context(held(library, text))
 
             def fit(graph: str) -> None:
                 with contextlib.ExitStack() as inner:
-                    inner.enter_context(held(library, Text(graph, inner))).check_fit(it)
+                    inner.enter_context(held(library, Text(graph, inner, limit))).check_fit(it)
 
-            found = Record(name, it.kind)
+            found, checksum = Record(name, it.kind), functools.cache(it.checksum)
             if self.tells != "kind":
-                found = found._replace(checksum=it.checksum(self.form))
-            if self.tells in ("whole", "contents"):
+                found = found._replace(checksum=checksum(self.form))
+            if isinstance(text, SummedText):
+                found = found._replace(forms=forms_of(it.kind, text.sum, checksum))
                 found = found._replace(bytes=text.size, declared=it.lines, canonical=it.count(self.form))
                 if it.kind in GRAPHS:
                     loops = it.loops(self.form)
@@ -238,23 +253,34 @@ class Reading:
 
     def _by_program(self, name: str, graphs: Optional[Sequence[str]]) -> Record:
         def fit(graph: str) -> None:
-            check(graph, name, program=self.program)
+            check(graph, name, program=self.program, timeout=self.timeout)
 
         if self.tells == "kind":
-            return beside(Record(name, check(name, program=self.program).kind), graphs, fit)
-        reader, summed, begin = Reader(name), hashlib.sha256(), Beginning()
+            return beside(Record(name, check(name, program=self.program, timeout=self.timeout).kind), graphs, fit)
+        reader, summed, begin, limit = Reader(name), hashlib.sha256(), Beginning(), Limit(self.timeout, name)
 
         def take(piece: bytes) -> None:
             summed.update(piece)
             reader.take(piece)
 
-        canon_into(Sink("out", take), name, self.form, self.program, begin.take)
+        canon_into(Sink("out", take), name, self.form, self.program, limit, begin.take)
         it, declared = reader.end(), begin.declared
+
+        def checksum(form: Form) -> str:
+            if form == self.form:
+                return summed.hexdigest()
+            # The canonical text in one form has that of the other form.
+            other = hashlib.sha256()
+            canon_into(Sink("out", other.update), it, form, self.program, limit)
+            return other.hexdigest()
+
         found = Record(name, it.kind, bytes=begin.size, declared=declared, canonical=len(it))
-        found = found._replace(checksum=summed.hexdigest())
+        found = found._replace(checksum=checksum(self.form))
+        if self.tells != "checksum":
+            found = found._replace(forms=forms_of(it.kind, begin.sum, checksum))
         if isinstance(it, Graph):
-            merged = declared - sum(1 for _ in groupby(zip(it.tails.tolist(), it.heads.tolist())))
-            found = found._replace(nodes=it.nodes, merged=merged, self_loops=loops_of(it.tails, it.heads))
+            facts = facts_of(it)
+            found = found._replace(nodes=it.nodes, merged=declared - facts.pairs, self_loops=facts.self_loops)
         if self.tells == "contents":
             found = found._replace(contents=contents_of(it))
         return beside(found, graphs, fit)
@@ -272,20 +298,73 @@ def beside(found: Record, graphs: Optional[Sequence[str]], fit: Callable[[str], 
             if error.name == found.name:
                 raise
             others.append(graph)
-    return found if graphs is None else found._replace(partners=tuple(fits), not_accepted=tuple(others))
+    return found if graphs is None else found._replace(graphs=tuple(fits), not_accepted=tuple(others))
+
+
+class Sum:
+    """The `checksum` of the bytes of a text that were read, or None if no canonical text begins as it does."""
+
+    def __init__(self) -> None:
+        self._sum, self._is_canonical, self._is_begun = hashlib.sha256(), True, False
+
+    def take(self, piece: bytes) -> None:
+        """Reads the next piece."""
+        if not self._is_begun:
+            self._is_begun, self._is_canonical = True, piece.startswith(b"p")
+        if self._is_canonical:
+            self._sum.update(piece)
+
+    @property
+    def checksum(self) -> Optional[str]:
+        return self._sum.hexdigest() if self._is_canonical else None
+
+
+class SummedText(Text):
+    """A text whose pieces are summed."""
+
+    def __init__(self, name: str, stack: contextlib.ExitStack, limit: Limit) -> None:
+        super().__init__(name, stack, limit)
+        self.sum = Sum()
+
+    def next_piece(self) -> Optional[bytes]:
+        piece = super().next_piece()
+        if piece:
+            self.sum.take(piece)
+        return piece
+
+
+def forms_of(kind: str, whole: Sum, checksum: Callable[[Form], str]) -> tuple[Form, ...]:
+    """Returns the forms in which a text is canonical, by its own checksum and those of its canonical texts."""
+
+    def is_canonical(form: Form) -> bool:
+        try:
+            return whole.checksum == checksum(form)
+        except Refused:
+            # The canonical text has too many lines.
+            return False
+
+    if whole.checksum is None:
+        return ()
+    forms: tuple[Form, ...] = (1, 2)
+    if kind == "min":
+        return tuple(filter(is_canonical, forms))
+    # Both forms are the same.
+    return forms if is_canonical(1) else ()
 
 
 class Beginning:
     """The problem line of an accepted text: it `declared` so many counted lines. `size` is the number of bytes that the
-    text has so far."""
+    text has so far, and `sum` their sum."""
 
     def __init__(self) -> None:
         self.declared = self.size = 0
+        self.sum = Sum()
         self._rest: Optional[bytes] = b""
 
     def take(self, piece: bytes) -> None:
         """Reads the next piece."""
         self.size += len(piece)
+        self.sum.take(piece)
         if self._rest is None:
             return
         *lines, rest = (self._rest + piece).split(b"\n")
@@ -298,9 +377,32 @@ class Beginning:
             self._rest = rest if rest.startswith(b"p") else rest[:1]
 
 
-def loops_of(tails: Column, heads: Column) -> int:
-    """Returns how many arcs end where they begin."""
-    return sum(map(eq, tails.tolist(), heads.tolist()))
+class Facts(NamedTuple):
+    """How many pairs of a graph have arcs, how many arcs begin where they end, and how many nodes have no arcs."""
+
+    pairs: int
+    self_loops: int
+    without_arcs: int
+
+
+def facts_of(it: Graph) -> Facts:
+    """Returns facts of a graph whose arcs are in the order of the canonical text."""
+    np, tails, heads = numpy_here(), it.tails, it.heads
+    if np is None:
+        pairs = set(zip(tails.tolist(), heads.tolist()))
+        loops = sum(tail == head for tail, head in zip(tails.tolist(), heads.tolist()))
+        return Facts(len(pairs), loops, it.nodes - len({node for pair in pairs for node in pair}))
+    again = np.count_nonzero((tails[1:] == tails[:-1]) & (heads[1:] == heads[:-1]))
+    return Facts(len(it) - int(again), int(np.count_nonzero(tails == heads)), it.nodes - count_of_nodes(np, it))
+
+
+def count_of_nodes(np: Any, it: Graph) -> int:
+    """Returns how many nodes have arcs."""
+    if it.nodes > SPARSE * len(it):
+        return len(np.union1d(it.tails, it.heads))
+    has_arcs = np.zeros(it.nodes + 1, bool)
+    has_arcs[it.tails] = has_arcs[it.heads] = True
+    return int(np.count_nonzero(has_arcs))
 
 
 def contents_of(it: AnyInstance) -> Contents:
@@ -312,10 +414,11 @@ def contents_of(it: AnyInstance) -> Contents:
     elif isinstance(it, Co):
         columns["id"] = it.ids
     columns.update((field, getattr(it, column)) for field, column in VALUES[it.kind].items())
+    caps = getattr(it, VALUES[it.kind].get("cap", ""), None)
     costly = sum(map(mul, it.caps.tolist(), map(abs, it.costs.tolist()))) if isinstance(it, Min) else None
     return Contents(
-        without_arcs=it.nodes - len({*it.tails.tolist(), *it.heads.tolist()}) if isinstance(it, Graph) else None,
-        capacity=sum(map(int, columns["cap"])) if "cap" in columns else None,
+        without_arcs=facts_of(it).without_arcs if isinstance(it, Graph) else None,
+        capacity=sum(caps.tolist()) if caps is not None else None,
         capacity_times_cost=costly,
         supply=sum(flow for flow in flows if flow > 0) if isinstance(it, Min) else None,
         demand=-sum(flow for flow in flows if flow < 0) if isinstance(it, Min) else None,

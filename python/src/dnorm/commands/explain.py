@@ -3,6 +3,7 @@
 from __future__ import annotations
 
 import contextlib
+import difflib
 import os
 import re
 import signal
@@ -10,11 +11,12 @@ import subprocess
 import sys
 from collections.abc import Iterable, Iterator, Sequence
 
-from ..causes import REMEDIES, cause_of
+from ..causes import REMEDIES, cause_of, quoted
 from ..console import for_terminal
 from ..errors import DnormError, NoProgram, Write
 from ..files import of_stream, reason_of
 from ..program import command as command_of
+from ..refusals import REFUSALS
 
 USAGE = """\
 Prints what dnorm has printed, and below each refusal of a file what shows its cause: the line that it names; what it
@@ -25,8 +27,8 @@ the file cannot be read, and below a refusal of standard input nothing.
     dnorm check FILE 2>&1 | dnorm-explain
     dnorm-explain WORDS..
 
-The second form runs dnorm with these words. dnorm-explain reads the files that the refusals name, so it runs in the
-folder of dnorm. `dnorm help COMMAND` shows how a command is called.
+The second form runs dnorm with these words, and also explains a command line that is refused. dnorm-explain reads the
+files that the refusals name, so it runs in the folder of dnorm.
 
 The status is that of dnorm, as its lines tell it; of several runs, the greatest one; 3 if there are no words and
 standard input is a terminal.
@@ -35,6 +37,15 @@ standard input is a terminal.
 REFUSED_LINE = re.compile(r"(.*):([0-9]+|end): ([12]?[0-9]) [A-Za-z]+", re.S)
 OTHER_LINE = re.compile(r"(.*): 3([0-6]) [A-Za-z]+(?: ([0-9]+))?", re.S)
 WRONG = ("dnorm: bad command line", "dnorm: standard input named twice")
+# The options of each command with the number of its files, and the values that options take.
+COMMANDS: dict[str, tuple[list[str], int]] = {
+    "canon": (["--form"], 1), "check": (["--with"], 1), "compare": ([], 2), "show": ([], 1), "help": ([], 0),
+}  # fmt: skip
+VALUES: dict[str, tuple[str, ...]] = {"--form": ("1", "2"), "--with": ()}
+# What other programs call these commands.
+OTHER_NAMES = {"diff": "compare", "cmp": "compare", "validate": "check", "verify": "check", "lint": "check"}
+OTHER_NAMES |= {"normalize": "canon", "normalise": "canon", "canonicalize": "canon", "info": "show", "stat": "show"}
+OTHER_NAMES |= {"version": "--version", "-v": "--version", "explain": "help"}
 
 
 def explain(words: Sequence[str]) -> int:
@@ -69,7 +80,7 @@ def explain_run(words: Sequence[str]) -> int:
     except OSError as error:
         raise NoProgram(program[0], reason_of(error)) from error
     for told in lines_of(os.fsdecode(ran.stderr)):
-        say(2, told, causes_of(told))
+        say(2, told, wrong_words(words) if told == WRONG[0] else causes_of(told))
     return ran.returncode if ran.returncode >= 0 else 128 - ran.returncode
 
 
@@ -129,6 +140,71 @@ def reason_of_failure(name: str) -> Iterator[str]:
             file.read(1)
     except OSError as error:
         yield reason_of(error)
+
+
+def wrong_words(words: Sequence[str]) -> Iterator[str]:
+    """Yields what is wrong with a command line."""
+    command, *others = words
+    if command not in COMMANDS:
+        yield unknown_command(command)
+        return
+    options, wanted = COMMANDS[command]
+    files: list[str] = []
+    given: set[str] = set()
+    rest = iter(others)
+    for it in rest:
+        name, is_given, value = it.partition("=")
+        if it == "--":
+            files += rest
+        elif it == "-" or not it.startswith("-"):
+            files.append(it)
+        elif name not in options:
+            known = f"it has {', '.join(options)}" if options else "it has none but --help"
+            yield f"{command} has no option {name}: {known}"
+            return
+        elif name in given:
+            yield f"{name} can be given once"
+            return
+        else:
+            given.add(name)
+            value = value if is_given else next(rest, "")
+            if not value or VALUES[name] and value not in VALUES[name]:
+                yield f"{name} takes {' or '.join(VALUES[name]) or 'the name of a file'}, and not {value!r}"
+                return
+    yield from wrong_files(command, files, wanted)
+
+
+def wrong_files(command: str, files: Sequence[str], wanted: int) -> Iterator[str]:
+    """Yields what is wrong with the files of a command."""
+    for it in files:
+        if not it.isascii() and it != it.encode(errors="ignore").decode():
+            yield f"dnorm takes no name that is not UTF-8: dnorm {command} - < {quoted(it)}"
+    if command == "help":
+        commands = ", ".join(it for it in COMMANDS if it != "help")
+        yield sentence_of(" ".join(files)) or f"help takes one command: {commands}"
+    elif len(files) != wanted:
+        more = "; - is standard input" if len(files) < wanted else ""
+        if command == "check" and len(files) > 1:
+            more = "; for several: dnorm-files check FILES.."
+        yield f"{command} takes {'two files' if wanted == 2 else 'one file'}, and not {len(files)}{more}"
+
+
+def sentence_of(word: str) -> str:
+    """Returns the sentence of a refusal, given by its number or its name, or nothing if the word is none."""
+    found = [it for it in REFUSALS.items() if word in (str(it[0]), it[1][0])]
+    return "".join(f"{number} {name}: {sentence}" for number, (name, sentence) in found)
+
+
+def unknown_command(word: str) -> str:
+    """Returns what is wrong with a word that is no command."""
+    if word == "-" or os.path.exists(word):
+        return f"a command comes before the file: dnorm check {quoted(word)}"
+    if sentence_of(word):
+        return sentence_of(word)
+    near = [OTHER_NAMES[word]] if word in OTHER_NAMES else difflib.get_close_matches(word, COMMANDS, 1)
+    if near:
+        return f"dnorm has no command {word}: the nearest is {near[0]}"
+    return f"dnorm has no command {word}; its commands are {', '.join(COMMANDS)}"
 
 
 def main() -> int:

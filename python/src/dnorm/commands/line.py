@@ -15,6 +15,7 @@ from .. import __version__
 from ..console import SIGNALS, Console, Stopped, for_terminal, has_output, heed, number
 from ..errors import DnormError, Read, Refused, Write
 from ..files import failing
+from ..limits import LONGEST
 from ..names import ENDINGS
 from ..program import page, processors, version
 from ..records import Record
@@ -76,9 +77,18 @@ def parser() -> Parser:
                 add_outputs(one, task)
             about = "files at the same time, by default one for each processor"
             one.add_argument("-j", "--jobs", type=number(1), default=processors(), metavar="N", help=about)
+        one.add_argument("--timeout", type=seconds, metavar="SECONDS", help="a file that takes longer is a failure")
         about = "the program, by default $DNORM, the one that pip installed, or dnorm on PATH"
         one.add_argument("--program", metavar="PROGRAM", help=about)
     return top
+
+
+def seconds(word: str) -> float:
+    """Returns the number of seconds of an option."""
+    with contextlib.suppress(ValueError):
+        if 0 < float(word) <= LONGEST:
+            return float(word)
+    raise argparse.ArgumentTypeError(f"a number above 0, and at most {LONGEST}, is wanted, and not {word!r}")
 
 
 def add_files(one: argparse.ArgumentParser, task: str) -> None:
@@ -100,7 +110,7 @@ def add_outputs(one: argparse.ArgumentParser, task: str) -> None:
     """Adds the arguments that say what a command prints."""
     add = one.add_argument
     # Python's usage fails at a group without arguments.
-    alone: Callable[..., object] = add if task in ("same", "list") else one.add_mutually_exclusive_group().add_argument
+    alone: Callable[..., object] = add if task == "same" else one.add_mutually_exclusive_group().add_argument
     if task in ("check", "manifest"):
         add("-q", "--quiet", action="store_true", help="print no line for files without a fault")
     about = "print JSON objects, one on a line, instead"
@@ -111,6 +121,9 @@ def add_outputs(one: argparse.ArgumentParser, task: str) -> None:
         add("--junit", metavar="FILE", help="also write a report for CI services into FILE")
         about = "check what git has staged and COMMIT has otherwise, by default the last one; print faults only"
         add("--staged", nargs="?", const="", metavar="COMMIT", help=about)
+    elif task == "list":
+        alone("--json", action="store_true", help=about)
+        alone("--csv", action="store_true", help="print a CSV table instead")
     else:
         add("--json", action="store_true", help=about)
     if task in ("manifest", "list"):
@@ -225,6 +238,7 @@ def main(words: Sequence[str] | None = None) -> int:
         getattr(run, found.task)()
         return run.status
     except Stopped as stopped:
+        console.hide()
         end_by(stopped.number, run)
         return FAILED
     except DnormError as error:

@@ -2,6 +2,8 @@
 
 from __future__ import annotations
 
+import csv
+import io
 import os
 import re
 from collections.abc import Iterator, Sequence
@@ -9,11 +11,16 @@ from xml.etree import ElementTree
 
 from ..errors import Refused
 from ..manifests import line_with
-from ..records import Record
+from ..pairs import VALUES
+from ..records import SIZES, Contents, Range, Record
 from ..summary import Differences
 
 # The sums that `list` tells.
 SUMS = ("capacity", "capacity_times_cost", "supply", "demand")
+# The heads of the table of `list`.
+FIELDS = ("flow", "id", *dict.fromkeys(field for fields in VALUES.values() for field in fields))
+HEADS = ["name", "kind", *SIZES, *(it for it in Contents._fields if it != "fields"), "checksum"]
+HEADS += [f"{it}_{of}" for it in FIELDS for of in Range._fields]
 # The letters of the lines that tell arcs, points and items, and what these are called.
 LINES = {"co": ("v", "points"), "ss": ("s", "items"), "p2p": ("q", "items")}
 # Characters that XML cannot contain, and half characters, by which Python represents the bytes of names that are not
@@ -27,7 +34,7 @@ def line_of(it: Record) -> str:
     """Returns the line of a file."""
     if it.error:
         return line_with(it.name, after=it.what)
-    more = [*([f"fits {', '.join(it.partners)}"] if it.partners else []), *it.remarks]
+    more = [*([f"fits {', '.join(it.graphs)}"] if it.graphs else []), *it.remarks]
     return line_with(it.name, after=f": accepted {it.kind}", more="".join(f", {one}" for one in more))
 
 
@@ -51,6 +58,20 @@ def text_of(it: Record) -> str:
     lines += [f"sums: {', '.join(told)}"] if told else []
     lines.append(f"checksum {it.checksum}")
     return "".join(f"    {line}\n" for line in lines)
+
+
+def row_of(it: Record, is_first: bool) -> str:
+    """Returns the row of a file in the CSV table of `list`, with the heads before the first one."""
+    ranges = it.contents.fields if it.contents else {}
+    found = {f"{field}_{of}": value for field, range_ in ranges.items() for of, value in range_._asdict().items()}
+    rows: list[dict[str, object]] = [dict(zip(HEADS, HEADS))] if is_first else []
+    made = ""
+    for row in [*rows, {**it.as_dict(), **found}]:
+        text = io.StringIO()
+        # Only a terminator with CR has a name with CR quoted.
+        csv.DictWriter(text, HEADS, extrasaction="ignore", lineterminator="\r\n").writerow(row)
+        made += text.getvalue().removesuffix("\r\n") + "\n"
+    return made
 
 
 def annotation_of(it: Record) -> str:

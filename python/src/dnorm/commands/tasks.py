@@ -13,16 +13,18 @@ from typing import Optional
 
 from ..console import Console
 from ..errors import Read
-from ..files import sink_of
+from ..files import reason_of, sink_of
 from ..folders import Collection, Found, find, in_order_of_names
 from ..library import library_of
-from ..manifests import Entry, Mark, line_with, manifest_changes, manifest_in, read_manifest, renewed
+from ..manifests import Entry, Mark, line_with, manifest_changes, manifest_in, mark_of, read_manifest
+from ..manifests import renewed
 from ..manifests import text_of as text_of_manifest
 from ..program import absolute
-from ..records import Partners, Reading, Record, counts_of
+from ..records import Partners, Reading, Record, Tells, counts_of
 from ..summary import differences
 from .look import page_of_folder, page_of_pair
-from .reports import annotation_of, cause_of, junit, line_of, lines_of_differences, record_of_differences, text_of
+from .reports import annotation_of, cause_of, junit, line_of, lines_of_differences, record_of_differences, row_of
+from .reports import text_of
 from .staged import staged
 from .workers import Workers
 
@@ -80,7 +82,8 @@ class Run:
     def reading(self) -> Reading:
         """Returns how checksums are read, and with them what JSON has."""
         words = self.words
-        return Reading(words.program, self.library, words.form, tells="whole" if self.is_json else "checksum")
+        tells: Tells = "whole" if self.is_json else "checksum"
+        return Reading(words.program, self.library, words.form, tells=tells, timeout=words.timeout)
 
     def check(self) -> None:
         """Checks files, and prints a line for each, and at the end the refusals with their causes."""
@@ -89,9 +92,8 @@ class Run:
             found = self.staged(stack) if words.staged is not None else self.found()
             report = stack.enter_context(sink_of(words.junit)) if words.junit else None
             partners = self.partners(found) if words.companions else None
-            reading = Reading(
-                words.program, self.library, 1, partners, words.strict, "whole" if self.is_json else "kind"
-            )
+            tells: Tells = "whole" if self.is_json else "kind"
+            reading = Reading(words.program, self.library, 1, partners, words.strict, tells, words.timeout)
             self.print_rest = self.print_end
             self.read(found, reading.record, self.print_record)
             if report:
@@ -179,7 +181,7 @@ class Run:
         files that the paths name and the manifest does not."""
         entries = self.listed(self.words.verify)
         form = next(it.form for it in entries.values())
-        reading = Reading(self.words.program, self.library, form, tells="checksum")
+        reading = Reading(self.words.program, self.library, form, tells="checksum", timeout=self.words.timeout)
         counts: Counter[str] = Counter()
 
         def take(it: Record) -> None:
@@ -231,38 +233,49 @@ class Run:
     def same(self) -> None:
         """Prints groups of files that pose the same problem. A link to a file of a group is none of them."""
         groups: dict[str, dict[tuple[int, int], str]] = {}
-        links = 0
+        links, reading = 0, self.reading()
 
-        def take(it: Record) -> None:
+        def task(name: str) -> tuple[Record, Mark | None]:
+            record = reading.record(name)
+            try:
+                return record, None if record.error else mark_of(name)
+            except OSError as error:
+                # It has gone meanwhile.
+                return Record(name, error=Read(name, reason_of(error))), None
+
+        def take(it: Record, mark: Mark | None) -> None:
             nonlocal links
-            if it.error or not it.checksum:
+            if not it.checksum or not mark:
                 self.console.complain(line_of(it))
                 return
-            with contextlib.suppress(OSError):
-                # A file that has gone meanwhile is in no group.
-                of = os.stat(it.name)
-                group, file = groups.setdefault(it.checksum, {}), (of.st_dev, of.st_ino)
-                links += file in group
-                # A file itself comes before its links.
-                if file not in group or os.path.islink(group[file]) and not os.path.islink(it.name):
-                    group[file] = it.name
+            group, file = groups.setdefault(it.checksum, {}), (mark.device, mark.number)
+            links += file in group
+            # A file itself comes before its links.
+            if file not in group or os.path.islink(group[file]) and not os.path.islink(it.name):
+                group[file] = it.name
 
-        self.read(self.found(), self.reading().record, take)
-        found = [(sum_, sorted(it.values(), key=os.fsencode)) for sum_, it in groups.items() if len(it) > 1]
+        found = self.found()
+        self.each(found, task, take, [*in_order_of_names(found.files)])
+        same = [(sum_, sorted(it.values(), key=os.fsencode)) for sum_, it in groups.items() if len(it) > 1]
         if self.is_json:
-            lines = (json.dumps({"checksum": sum_, "names": names}) + "\n" for sum_, names in found)
+            lines = (json.dumps({"checksum": sum_, "names": names}) + "\n" for sum_, names in same)
             self.console.print("".join(lines))
         else:
-            self.console.print("\n".join("".join(map(line_with, names)) for _, names in found))
-        self.sum_up({}, {"groups": len(found), "links": links})
+            self.console.print("\n".join("".join(map(line_with, names)) for _, names in same))
+        self.sum_up({}, {"groups": len(same), "links": links})
 
     def list(self) -> None:
         """Prints what each file contains."""
-        reading = Reading(self.words.program, self.library, self.words.form, tells="contents")
+        words, rows = self.words, 0
+        reading = Reading(words.program, self.library, words.form, tells="contents", timeout=words.timeout)
 
         def take(it: Record) -> None:
+            nonlocal rows
             if it.error or self.is_json:
                 self.tell(it)
+            elif words.csv:
+                self.console.print(row_of(it, not rows))
+                rows += 1
             else:
                 self.console.print(line_with(it.name, after=f": {it.kind}") + text_of(it))
 
@@ -275,7 +288,7 @@ class Run:
         words = self.words
         with open(0, "rb", buffering=0, closefd=False) as stream:
             left, right = (stream if it == "-" else it for it in (words.left, words.right))
-            found = differences(left, right, words.limit, program=words.program)
+            found = differences(left, right, words.limit, program=words.program, timeout=words.timeout)
         if words.json:
             self.console.print(json.dumps(record_of_differences(found)) + "\n")
         elif not words.quiet:
@@ -286,15 +299,17 @@ class Run:
         """Prints a page of HTML: of where two files differ, or of what is in folders."""
         words = self.words
         if len(words.path) == 2:
-            compared = differences(words.path[0], words.path[1], 50, program=words.program)
-            self.console.print(page_of_pair(compared, *words.path))
+            left, right = words.path
+            compared = differences(left, right, 50, program=words.program, timeout=words.timeout)
+            self.console.print(page_of_pair(compared, left, right))
             self.own = 0 if compared.first else DIFFERS
             return
         older = None if words.since is None else read_manifest(words.since)
         form = older.form if older else words.form
         found = find(words.path, words.ending, words.exclude)
         self.others, self.excluded = len(found.others), found.excluded
-        self.read(found, Reading(words.program, self.library, form, self.partners(found)).record, lambda _: None)
+        reading = Reading(words.program, self.library, form, self.partners(found), timeout=words.timeout)
+        self.read(found, reading.record, lambda _: None)
         collection = Collection(tuple(self.records), found.others, found.excluded, form)
         changes = manifest_changes(older, collection.manifest) if older else None
         self.console.print(page_of_folder(collection, words.path[0], self.status, changes))
@@ -321,16 +336,19 @@ class Run:
 
         def one(name: str) -> tuple[Record, Mark | None]:
             error = found.files[name]
-            return (Record(name, error=error), None) if error else task(name)
+            result = (Record(name, error=error), None) if error else task(name)
+            self.console.step()
+            return result
 
         def taken(result: tuple[Record, Mark | None]) -> None:
             self.records.append(result[0])
             take(*result)
 
+        self.console.expect(len(names), self.sizes(names))
         workers, ended = Workers(one, names, self.words.jobs), 0
         try:
             for at in range(len(names)):
-                result = workers.result(at)
+                result = workers.result(at, self.console.draw)
                 ended += 1
                 taken(result)
                 if getattr(self.words, "exit_first", False) and result[0].error:
@@ -347,6 +365,10 @@ class Run:
 
             self.take_rest = take_rest
             raise
+
+    def sizes(self, names: Sequence[str]) -> int:
+        """Returns the sum of the sizes of files, for the progress on a terminal."""
+        return sum(os.path.getsize(it) for it in names if os.path.isfile(it)) if self.console.is_terminal else 0
 
     def stop(self) -> None:
         """Prints what is known of a run that a signal ends."""

@@ -2,7 +2,6 @@
 
 from __future__ import annotations
 
-import contextlib
 import threading
 from collections.abc import Callable, Sequence
 from queue import Empty, SimpleQueue
@@ -54,17 +53,19 @@ class Workers(Generic[Item, Result]):
         except BaseException as error:
             self._came.put((at, error))
 
-    def result(self, at: int) -> Result:
+    def result(self, at: int, idle: Callable[[], None] = lambda: None) -> Result:
         """Returns the result of this item, or raises what its task has raised. Results are asked for in the order of
-        the items."""
+        the items. `idle` is called again and again during a long wait."""
         while self._begun < min(at + AHEAD, len(self._items)):
             self._begin()
         while at not in self._done:
             if not self._threads:
                 self._do(self._wanted.get())
-            with contextlib.suppress(Empty):
+            try:
                 place, found = self._came.get(timeout=PAUSE)
                 self._done[place] = found
+            except Empty:
+                idle()
         found = self._done.pop(at)
         if isinstance(found, BaseException):
             raise found

@@ -1,0 +1,164 @@
+"""How long a call may take."""
+
+from __future__ import annotations
+
+import contextlib
+import numbers
+import os
+import select
+import signal
+import subprocess
+import threading
+import time
+from collections.abc import Callable, Iterator
+from concurrent.futures import ThreadPoolExecutor
+from typing import Any, BinaryIO, TypeVar
+
+from .errors import Memory, TimedOut
+
+Result = TypeVar("Result")
+Other = TypeVar("Other")
+# The longest limit, some 30 years, which all calls of the system take; and the longest wait of one call of poll.
+LONGEST, WAIT = 10**9, 10**6
+
+
+class Lease:
+    """Something that is freed once nothing uses it any more."""
+
+    def __init__(self, free: Callable[[], object]) -> None:
+        self._free, self._users, self._lock = free, 1, threading.Lock()
+
+    def take(self) -> None:
+        """Says that something more uses it."""
+        with self._lock:
+            self._users += 1
+
+    def end(self) -> None:
+        """Says that something uses it no more."""
+        with self._lock:
+            self._users -= 1
+            is_free = not self._users
+        if is_free:
+            self._free()
+
+
+def check_seconds(seconds: Any) -> None:
+    """Raises TypeError for what is no number of seconds, and ValueError for one that no clock reaches."""
+    is_number = isinstance(seconds, numbers.Real)
+    if not is_number:
+        raise TypeError(f"timeout is a number of seconds, and not {type(seconds).__name__}")
+    if not 0 <= seconds <= LONGEST:
+        raise ValueError(f"timeout is at least 0 and at most {LONGEST} seconds, and not {seconds}")
+
+
+class Limit:
+    """So many seconds from now, or no limit. `name` is what the error of a call calls its file."""
+
+    def __init__(self, seconds: float | None, name: str) -> None:
+        if seconds is not None:
+            check_seconds(seconds)
+        self.seconds, self.name = seconds, name
+        self._end = None if seconds is None else time.monotonic() + seconds
+
+    def left(self) -> float | None:
+        """Returns the seconds that are left. Raises TimedOut if there are none."""
+        if self._end is None or self.seconds is None:
+            return None
+        left = self._end - time.monotonic()
+        if left <= 0:
+            raise TimedOut(self.name, self.seconds)
+        return left
+
+    def during(self, call: Callable[[], Result], *leases: Lease) -> Result:
+        """Returns what a call returns that nothing can end, and that uses what is leased. If the time is over before,
+        raises TimedOut; the call then goes on in a thread, and what it uses stays until its end."""
+        left = self.left()
+        if left is None:
+            return call()
+        found: list[Result] = []
+        has_ended = threading.Event()
+
+        def run() -> None:
+            try:
+                found.append(call())
+            finally:
+                for it in leases:
+                    it.end()
+                has_ended.set()
+
+        for it in leases:
+            it.take()
+        started(threading.Thread(target=run, daemon=True), self.name)
+        has_ended.wait(left)
+        self.left()
+        return found[0]
+
+    @contextlib.contextmanager
+    def over(self, process: subprocess.Popen[bytes]) -> Iterator[None]:
+        """Kills a process if it runs when the time is over. Raises TimedOut at the end then."""
+        left, is_over = self.left(), threading.Event()
+        if left is None or self.seconds is None:
+            yield
+            return
+
+        def end() -> None:
+            is_over.set()
+            # Popen.kill() would take the status of a process that has ended.
+            if process.returncode is None:
+                with contextlib.suppress(ProcessLookupError):
+                    os.kill(process.pid, signal.SIGKILL)
+
+        timer = threading.Timer(left, end)
+        timer.daemon = True
+        started(timer, self.name)
+        try:
+            yield
+        finally:
+            timer.cancel()
+        if is_over.is_set():
+            raise TimedOut(self.name, self.seconds)
+
+
+def started(thread: threading.Thread, name: str) -> None:
+    """Starts a thread for the file of this name."""
+    try:
+        thread.start()
+    except RuntimeError as error:
+        # The system lets no more threads start.
+        raise Memory(name) from error
+
+
+def at_once(one: Callable[[], Result], other: Callable[[], Other], end: Callable[[], None]) -> tuple[Result, Other]:
+    """Returns what two calls return, the second of which a thread makes meanwhile. Raises what the first one raises, if
+    it does, and else what the second one does. `end` makes the second one end soon."""
+    # What the thread reads must not be closed before it ends, for which the pool waits.
+    with ThreadPoolExecutor(1) as pool:
+        try:
+            later = pool.submit(other)
+        except RuntimeError:
+            # The system lets no more threads start.
+            return one(), other()
+        try:
+            return one(), later.result()
+        except BaseException:
+            end()
+            raise
+
+
+class Timed:
+    """A file, pipe or device that is read within a limit."""
+
+    def __init__(self, file: BinaryIO, limit: Limit) -> None:
+        self._file, self._limit = file, limit
+
+    def wait(self) -> None:
+        """Waits until reading does not wait."""
+        poll = select.poll()
+        poll.register(self._file, select.POLLIN)
+        while (left := self._limit.left()) is not None and not poll.poll(min(WAIT, left) * 1000):
+            pass
+        self._limit.left()
+
+    def read(self, size: int, /) -> bytes:
+        self.wait()
+        return self._file.read(size)
