@@ -14,8 +14,8 @@
        dnorm_write, dnorm_problem_line, dnorm_item_line,
        dnorm_arc_line                                              write a text of items and arcs
 
-   They keep the rules of dnorm.h for what they call, and the same rules hold for what they are given. They need
-   POSIX. */
+   They keep the rules of dnorm.h for what they call, and the same rules hold for what they are given. They need POSIX
+   or Windows, where they read all files as binary ones, and name them by the code page of the program. */
 #ifndef DNORM_TOOLS_H
 #define DNORM_TOOLS_H
 #include "dnorm.h"
@@ -25,7 +25,11 @@
 #include <inttypes.h>
 #include <stdio.h>
 #include <stdlib.h>
+#ifdef _WIN32
+#include <io.h>
+#else
 #include <unistd.h>
+#endif
 
 /* Codes that dnorm.h does not have. */
 enum {
@@ -196,6 +200,17 @@ DNORM_INLINE dnorm_status dnorm_inline_finish(dnorm_inline_readers *both, dnorm_
     return status;
 }
 
+/* Windows reads an open file as a text or as bytes, and a byte 26 ends a text. Sets how, and returns how it was. */
+#ifdef _WIN32
+#define DNORM_BINARY _O_BINARY
+#define DNORM_FILENO(file) _fileno(file)
+DNORM_INLINE int dnorm_inline_mode(int fd, int mode) { return _setmode(fd, mode); }
+#else
+#define DNORM_BINARY 0
+#define DNORM_FILENO(file) 0
+DNORM_INLINE int dnorm_inline_mode(int fd, int mode) { return (void)fd, mode; }
+#endif
+
 /* Reads a text and its arc lines from a file descriptor to its end, as dnorm_read_fd does: both readers are fed the
    same bytes. `lines` owns nothing before, and nothing after any code but DNORM_FINE; dnorm_arc_lines_free frees it. */
 DNORM_INLINE dnorm_status dnorm_read_lines_fd(dnorm_handle *graph, dnorm_arc_lines *lines, int fd) {
@@ -203,9 +218,11 @@ DNORM_INLINE dnorm_status dnorm_read_lines_fd(dnorm_handle *graph, dnorm_arc_lin
     dnorm_inline_readers both;
     dnorm_status status = dnorm_inline_begin(&both, graph, lines);
     bool goes_on = status.code == DNORM_FINE;
+    int mode;
     if (!goes_on) return status;
+    mode = dnorm_inline_mode(fd, DNORM_BINARY);
     while (goes_on) {
-        const ssize_t length = read(fd, bytes, sizeof bytes);
+        const int64_t length = read(fd, bytes, sizeof bytes);
         if (length > 0) goes_on = dnorm_inline_both(&both, &status, bytes, DNORM_AS(size_t, length));
         else if (length == 0) goes_on = false;
         else if (errno != EINTR) {
@@ -213,6 +230,7 @@ DNORM_INLINE dnorm_status dnorm_read_lines_fd(dnorm_handle *graph, dnorm_arc_lin
             goes_on = false;
         }
     }
+    dnorm_inline_mode(fd, mode);
     return dnorm_inline_finish(&both, status);
 }
 
@@ -222,7 +240,9 @@ DNORM_INLINE dnorm_status dnorm_read_lines_file(dnorm_handle *graph, dnorm_arc_l
     dnorm_inline_readers both;
     dnorm_status status = dnorm_inline_begin(&both, graph, lines);
     bool goes_on = status.code == DNORM_FINE;
+    int mode;
     if (!goes_on) return status;
+    mode = dnorm_inline_mode(DNORM_FILENO(file), DNORM_BINARY);
     while (goes_on) {
         const size_t length = fread(bytes, 1, sizeof bytes, file);
         const int cause = errno;
@@ -236,11 +256,15 @@ DNORM_INLINE dnorm_status dnorm_read_lines_file(dnorm_handle *graph, dnorm_arc_l
         }
         goes_on = goes_on && !(has_failed && !is_interrupted) && (is_interrupted || length == sizeof bytes);
     }
+    dnorm_inline_mode(DNORM_FILENO(file), mode);
     return dnorm_inline_finish(&both, status);
 }
 
-/* How a file is opened: programs that another thread starts meanwhile do not get it, where the system can say so. */
-#ifdef O_CLOEXEC
+/* How a file is opened: programs that another thread starts meanwhile do not get it, where the system can say so. In a
+   text of Windows, a byte 26 would be the end. */
+#ifdef _WIN32
+#define DNORM_OPEN (_O_RDONLY | _O_BINARY | _O_NOINHERIT)
+#elif defined(O_CLOEXEC)
 #define DNORM_OPEN (O_RDONLY | O_CLOEXEC)
 #else
 #define DNORM_OPEN O_RDONLY

@@ -77,7 +77,10 @@ def made(tested: str, tmp_path_factory: pytest.TempPathFactory) -> str:
 
 @pytest.fixture(scope="session")
 def c_library() -> str:
-    """The prefix below which the library for C is, which tests/run has built first."""
+    """The prefix below which the library for C is, which tests/run has built first, or another one that a variable
+    names."""
+    if prefix := os.environ.get("DNORM_TESTED_PREFIX"):
+        return prefix
     status = os.environ.get("DNORM_C_LIBRARY") or str(run([f"{ROOT}/tools/c-library"], limit=None).status)
     if status == "125":
         leave_out("the kit")

@@ -21,8 +21,8 @@ from shared import DEFINITIONS, ROOT, listed, text_of  # noqa: E402
 # The pages of the repository, and those that a release has.
 PAGES = sorted(it for _, it, _ in listed() if it.endswith(".md"))
 LINKING = [*(it for it in PAGES if it != DEFINITIONS), "released/README.md"]
-# The pages whose blocks of code are all quoted from a source, of which the first one explains the signs in them.
-QUOTING = ["docs/PROVED.md", "docs/LAWS.md"]
+# The page whose blocks of code are all quoted from a source, and which explains the signs in them.
+QUOTING = "docs/PROVED.md"
 # Where a release has its pages and examples.
 HOME = "share/doc/dnorm/"
 
@@ -120,10 +120,9 @@ def bad_dependencies() -> Iterator[str]:
 
 def complaints() -> Iterator[str]:
     """Yields all wrong statements of the pages."""
-    for page in QUOTING:
-        yield from bad_quotes(page)
+    yield from bad_quotes(QUOTING)
     yield from bad_dependencies()
-    yield from unexplained(QUOTING[0])
+    yield from unexplained(QUOTING)
     for page in LINKING:
         yield from bad_links(page)
         yield from () if page == "CHANGELOG.md" else bad_paths(page)

@@ -29,7 +29,8 @@ Levels, each of which includes the ones before it:
     compare    'compare', and 'check' with a companion
 
 Standard input is a file, a pipe, or a pipe in pieces of 1, 7 or 4096 bytes, by the id of the case. With --batch,
-COMMAND runs once for each job, and answers each line of its standard input in a line: README.md describes these.
+COMMAND runs once for each job, with no more arguments, and answers each line of its standard input in a line:
+README.md describes these. Its statuses are not tested then.
 
 Further lines are ignored where 'check' prints them: on standard output after the expected ones, and on standard error
 before the refusal. In place of the './dnorm' of a clone, the program that it runs is called. On a terminal, standard

@@ -1,7 +1,7 @@
 """The examples in README.md and in the pages of docs/ for users: each block of commands that a block of output follows.
 Both streams together must be this output. The blocks of a section run in one shell, in a fresh folder that has
-examples/, web/, the program as ./dnorm, ./dnorm-files, and for README.md share/conformance/, with what `./install`
-installs on its path; the shell is bash only if a block asks for it. Then the blocks of all sections of a page run in
+examples/, web/, the program as ./dnorm, ./dnorm-files and ./dnorm-explain, with what `./install` installs on its path;
+the shell is bash only if a block asks for it. Then the blocks of all sections of a page run in
 one bash. A block that begins with a comment with the name of a file is written to that file first.
 
 The recipes for a file have the status that the manual says for one that is refused or unreadable. Each text in
@@ -38,7 +38,7 @@ LIBRARY = f"{ROOT}/c/out"
 # Recipes for a file: their page and section, the beginning of the commands, the file, and the status for a file that is
 # refused and for one that is unreadable.
 RECIPES = [
-    (README, "Use it", "./dnorm canon examples/roads.gr |", "examples/roads.gr", 2, 4),
+    (README, "Try it", "./dnorm canon examples/roads.gr |", "examples/roads.gr", 2, 4),
     ("docs/MANUAL.md", "canon", "dnorm canon examples/flow.min > ", "examples/flow.min", 2, 4),
     ("docs/MANUAL.md", "Canonical checksums", "dnorm canon", "examples/roads.gr", 2, 4),
     ("docs/MANUAL.md", "Compressed files", "gzip -dc roads.gr.gz", "roads.gr.gz", 2, 2),
@@ -133,11 +133,9 @@ class Examples:
             os.symlink(target, f"{self.folder}/home/.local/{to}")
         os.mkdir(f"{self.folder}/fresh")
         os.symlink(tested, f"{self.folder}/fresh/dnorm")
-        for it in ["dnorm-files", "web"]:
+        for it in ["dnorm-files", "dnorm-explain", "web"]:
             os.symlink(f"{ROOT}/{it}", f"{self.folder}/fresh/{it}")
         shutil.copytree(f"{ROOT}/examples", f"{self.folder}/fresh/examples")
-        if self.name == README:
-            shutil.copytree(f"{ROOT}/share/conformance", f"{self.folder}/fresh/share/conformance")
 
     def lacking(self, blocks: list[Block]) -> list[str]:
         """Returns the missing tools that these blocks need."""
@@ -242,11 +240,10 @@ def test_installed_readme(tested: str, folder: str) -> None:
     assert run([sys.executable, f"{ROOT}/tools/pages.py", pages]) == said(), "links"
     own = {it: value for it, value in os.environ.items() if it not in ("DNORM", "PYTHONPATH")}
     own["PATH"] = f"{prefix}/bin:{own['PATH']}"
-    assert " 292 lines of plain Rust (`bench/baselines/btree.rs`) write " in text_of(
-        f"{pages}/{README}"
-    ), "a link to what is not installed"
+    here = " 292 lines of plain Rust (`bench/baselines/btree.rs`)."
+    assert here in text_of(f"{pages}/{README}"), "a link to what is not installed"
     blocks = [*blocks_of(text_of(f"{pages}/{README}"))]
-    assert len(blocks) == len([*blocks_of(text_of(f"{ROOT}/{README}"))]) > 6
+    assert len(blocks) == len([*blocks_of(text_of(f"{ROOT}/{README}"))]) > 5
     for it in blocks:
         ran = run(["bash", "-c", f"exec 2>&1\n{it.text}"], cwd=pages, env=own, limit=5 * LIMIT)
         assert ran.out.decode() == it.output, it.text

@@ -1,18 +1,24 @@
 """Scratch repositories that have what a release is made of, and the files of a release."""
 
 import os
+import re
 import shutil
 from typing import NamedTuple
 
 from needs import leave_out
-from shared import ROOT, Answer, bytes_of, links_listed, listed, run, write
+from shared import ROOT, Answer, bytes_of, links_listed, listed, run, text_of, write
 
 OUT = "crates/dnorm/out"
 # What released/ has, besides its page.
-RELEASED = ["SHA256SUMS", "aarch64/dnorm.gz", "buildinfo", "dnorm.html", "dnorm.wasm.gz"]
+RELEASED = ["SHA256SUMS", "aarch64/dnorm.gz", "buildinfo", "c/dnorm.h", "c/libdnorm.c", "dnorm.html", "dnorm.wasm.gz"]
 RELEASED += [f"x86_64/{it}" for it in ["dnorm", "libdnorm.a.gz", "libdnorm.so.3.gz"]]
 # What tools/release runs on the program for aarch64.
 FOR_AARCH64 = "tests/program/test_aarch64.py"
+# What it runs on the program of the C file, and what compiles that for Windows.
+FOR_C_FILE, MINGW = "tests/library/test_c_program.py", "x86_64-w64-mingw32-gcc"
+NO_MINGW = f"release: Windows is left out: there is no {MINGW} on the path\n".encode()
+# A declaration of dnorm.h: the type, the name and the arguments.
+DECLARED = re.compile(r"^(\w+) (dnorm_\w+)(\([^;]*\));$", re.M)
 # Scripts that take the places of others in a scratch repository: the first one says whether the files are there, and
 # the second one whether it is called for the program among them.
 SCRIPTS = {
@@ -20,7 +26,9 @@ SCRIPTS = {
     "tools/c-library": "",
     "tools/aarch64": f"[ -e {OUT}/aarch64/dnorm ]",
     "tools/wasm": "",
-    "tests/run": f'[ "$*" = "$PWD/{OUT}/aarch64/dnorm -- {FOR_AARCH64}" ] && [ "$CI" = true ]',
+    "tools/c-file": "[ -e c/out/libdnorm.c ]",
+    "tests/run": f'[ "$CI" = true ] && {{ [ "$*" = "$PWD/{OUT}/aarch64/dnorm -- {FOR_AARCH64}" ] ||'
+    f' [ "${{1##*/}} $2 $3" = "c-program -- {FOR_C_FILE}" ]; }}',
 }
 # What a scratch repository does not have of this one.
 WITHOUT = shutil.ignore_patterns(".git", "out", "dist", "released", "__pycache__", ".*_cache")
@@ -130,6 +138,15 @@ class Place:
                 write(f"{self.folder}/{to}/{it}", bytes_of(found[0]) if found else "")
         for it in ["dnorm.wasm", "dn_c.a", "said"]:
             write(f"{self.folder}/web/out/{it}", f"{it}\n")
+        # A C file whose functions do nothing is compiled in no time.
+        declared = DECLARED.findall(text_of(f"{ROOT}/c/dnorm.h"))
+        bodies = {it: f"static {it} none; return none;" if it != "void" else "" for it, _, _ in declared}
+        lines = [
+            '#include "dnorm.h"',
+            *(f"{it} ({name}){words} {{ {bodies[it]} }}" for it, name, words in declared),
+            "",
+        ]
+        write(f"{self.folder}/c/out/libdnorm.c", "\n".join(lines))
 
     def git(self, *words: str) -> None:
         who = {f"GIT_{one}_{it}": value for one in ["AUTHOR", "COMMITTER"] for it, value in WHO.items()}
@@ -168,7 +185,8 @@ class Made:
             self.info,
             self.wheel,
             self.python_package,
-            *(f"dnorm-{self.version}{it}" for it in ["-objects.tar.gz", ".tgz"]),
+            *(f"dnorm-{self.version}{it}" for it in ["-objects.tar.gz", "-c.tar.gz", ".tgz"]),
+            *([f"dnorm-{self.version}-x86_64-windows.exe"] if shutil.which(MINGW) else []),
         ]
         return sorted([*own, *(it for port in self.ports for it in port.files)])
 
@@ -181,7 +199,7 @@ class Made:
         to = f"{self.folder}/trial"
         self.one.commit("Unreleased", self.version)
         found = self.one.release("--trial", to)
-        line = found.err.decode(errors="replace").strip()
+        line = found.err.decode(errors="replace").partition("\n")[0]
         if found.status and line.startswith("release: there is no"):
             leave_out(tool_of(line))
         if found.status and line.startswith("release: crates/dnorm/out has no object"):
@@ -189,7 +207,9 @@ class Made:
         if line.startswith("release: aarch64 is left out: "):
             self.lacks_aarch64 = line.removeprefix("release: aarch64 is left out: ")
             self.ports.pop()
-            found = found._replace(err=b"")
+            found = found._replace(err=b"".join(found.err.splitlines(True)[1:]))
+        if not shutil.which(MINGW):
+            found = found._replace(err=found.err.replace(NO_MINGW, b""))
         assert (found.err, found.status) == (b"", 0), "a trial"
         assert sorted(os.listdir(to)) == sorted([*self.files(), "SHA256SUMS"]), "files of a trial"
 

@@ -123,6 +123,28 @@ def two(made: Made) -> Place:
     return two
 
 
+def test_c_file(made: Made, two: Place, folder: str) -> None:
+    """The archive of the C file builds by make and by CMake, and puts what it has below a prefix."""
+    need("make", "cmake", "gcc")
+    name = f"dnorm-{made.version}-c"
+    with tarfile.open(f"{two.dist}/{name}.tar.gz") as tar:
+        tar.extractall(folder)
+    headers = [f"include/{it}" for it in ["dnorm.h", "dnorm.hpp", "dnorm_codes.h", "dnorm_tools.h"]]
+    by_make = ["make", "-s", "-C", name, "CFLAGS=-O0", f"PREFIX={folder}/made", "install"]
+    for words in [
+        by_make,
+        ["cmake", "-S", name, "-B", "build"],
+        ["cmake", "--build", "build"],
+        ["cmake", "--install", "build", "--prefix", "by-cmake"],
+    ]:
+        assert run(words).status == 0, words
+    installed = ["bin/dnorm", *headers, "lib/libdnorm.a"]
+    for it, wanted in {"made": [*installed, "lib/pkgconfig/dnorm.pc"], "by-cmake": installed}.items():
+        assert sorted(files_of(all_below(it))) == sorted(wanted)
+        assert run([f"{it}/bin/dnorm", "--version"]).out.startswith(f"dnorm {made.version}\n".encode())
+    assert f"Version: {made.version}\n" in text_of("made/lib/pkgconfig/dnorm.pc")
+
+
 @pytest.fixture(params=range(len(MACHINES)), ids=[it.name for it in MACHINES])
 def port(request: pytest.FixtureRequest, made: Made, two: Place) -> Port:
     """The files of the release for an architecture."""
