@@ -16,11 +16,11 @@ from collections.abc import Callable
 from typing import Any
 
 from collection import FAULTS, OTHERS, make_collection, make_pipes
-from known import COSTS, ROADS
+from known import CANONICAL, COSTS, ROADS
 from needs import leave_out
 from reading import GRAPHS, canonical, read
 from shared import ROOT, bytes_of, run, text_of, write
-from test_calls import ALL, BOTH, READS, told
+from test_calls import ALL, BOTH, FORMS, READS, fake, told
 from test_folders import make, module
 from test_manifests import ONES, ZEROS
 
@@ -92,6 +92,24 @@ def test_of_collection(tested: str) -> None:
     assert {it: last[it] for it in same.counts} == same.counts
     html = same._repr_html_()
     assert html.startswith("<p>&lt;dnorm.Collection: ") and html.count("<tr>") == 12, html
+
+
+@BOTH
+def test_forms() -> None:
+    """The forms in which texts are canonical, whichever form the checksums are of; and files that take too long."""
+    make({f"set/{at}-{place}.gr": text for at, row in enumerate(CANONICAL) for place, text in enumerate(row)})
+    found = set()
+    for form in FORMS:
+        for it in dnorm.check_folder("set", form=form).records:
+            text = bytes_of(it.name)
+            assert it.forms == tuple(one for one in FORMS if dnorm.canon(text, one) == text), it
+            assert it.checksum == dnorm.checksum(text, form), it
+            found.add(it.forms)
+    assert found == {(), (1,), (2,), (1, 2)}
+    make({"one/t.gr": ROADS})
+    (late,) = dnorm.check_folder("one", program=fake("slow", "exec sleep 60"), timeout=0.3).records
+    assert str(late.error) == "one/t.gr: took more than 0.3 seconds"
+    assert told(lambda: dnorm.check_folder("one", timeout=-1)).startswith("ValueError: timeout is at least 0 ")
 
 
 def plain(record: dict[str, Any]) -> dict[str, Any]:
