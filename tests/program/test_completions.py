@@ -44,6 +44,7 @@ COMPLETED = [
     ("dnorm-files manifest --verify s", "s.ss"),
     ("dnorm-files manifest --form ", "1 2"),
     ("dnorm-files list --c", "--csv"),
+    ("dnorm-files look --s", "--since"),
     ("dnorm-files compare g.gr s", "s.ss"),
     ("dnorm-files compare --l", "--limit"),
     ("canon-in-parts --f", "--form"),

@@ -18,8 +18,8 @@ pytestmark = READS
 WORKFLOW = f"{ROOT}/share/ci/github.yml"
 HOOKS = f"{ROOT}/.pre-commit-hooks.yaml"
 VERSION = "1.2.3"
-# A step that runs commands, and a value of the job's environment.
-STEP = re.compile(r"^ +run: \|\n((?: {10}.*\n)+)", re.M)
+# A step that runs commands, perhaps always, and a value of the job's environment.
+STEP = re.compile(r"^( +if: always\(\)\n)? +run: \|\n((?: {10}.*\n)+)", re.M)
 VALUE = re.compile(r"^ {6}(\w+): (\S+)$", re.M)
 FIELD = re.compile(r"^[- ] (\w+): (?:>-\n((?: {4}.*\n)+)|(.*)$)", re.M)
 
@@ -37,7 +37,7 @@ def make_release(tested: str) -> None:
         archive.add(os.path.realpath(tested), f"{name}/dnorm")
         archive.add(f"{ROOT}/dnorm-files", f"{name}/dnorm-files")
         for _, place, _ in listed():
-            if place.startswith("python/src/"):
+            if place.startswith(("python/src/", "web/")):
                 archive.add(f"{ROOT}/{place}", f"{name}/{place}")
     sums = run(["bash", "-c", "cd release && sha256sum dnorm-*"]).out
     write("release/SHA256SUMS", sums)
@@ -48,7 +48,7 @@ class Runner:
 
     def __init__(self) -> None:
         text = text_of(WORKFLOW)
-        self.steps = [textwrap.dedent(it) for it in STEP.findall(text)]
+        self.steps = [(bool(always), textwrap.dedent(it)) for always, it in STEP.findall(text)]
         here = os.getcwd()
         self.environment = {it: value for it, value in os.environ.items() if it not in ("DNORM", "PYTHONPATH")}
         self.environment |= dict(VALUE.findall(text))
@@ -56,19 +56,19 @@ class Runner:
         self.environment |= {"RUNNER_TEMP": f"{here}/temp", "GITHUB_PATH": f"{here}/path", "GITHUB_ENV": f"{here}/env"}
 
     def run(self) -> list[Answer]:
-        """Returns what the steps print, up to the first that fails."""
+        """Returns what the steps print: those up to the first that fails, and those that run always."""
         shutil.rmtree("temp", ignore_errors=True)
         os.mkdir("temp")
         found: list[Answer] = []
         for name in ["path", "env"]:
             write(name, "")
-        for step in self.steps:
+        for always, step in self.steps:
+            if any(it.status for it in found) and not always:
+                continue
             added = dict(it.split("=", 1) for it in text_of("env").splitlines())
             path = ":".join([*text_of("path").splitlines(), os.environ["PATH"]])
             environment = {**self.environment, **added, "PATH": path}
             found.append(run(["bash", "-e", "-c", step], cwd="texts", env=environment))
-            if found[-1].status:
-                break
         return found
 
 
@@ -84,26 +84,28 @@ def test_workflow(tested: str) -> None:
     os.makedirs("texts/below")
     write("texts/below/roads.gr", ROADS)
     runner = Runner()
-    assert len(runner.steps) == 2, "the steps"
+    assert len(runner.steps) == 3, "the steps"
     assert re.search(r"checkout@.*\n +with:\n +lfs: true\n +submodules: recursive\n", text_of(WORKFLOW)), "all of it"
     found = runner.run()
     wanted = Answer(b"", b"1 accepted, 0 refused, 0 failed\n", 0)
-    assert (found[-1], len(found)) == (wanted, 2), "a repository of accepted texts"
+    assert (found[1], found[2].status, len(found)) == (wanted, 0, 3), "a repository of accepted texts"
+    assert ">1 accepted, 0 refused, 0 failed; status 0<" in text_of("temp/dnorm.html"), "its page"
     write("texts/bad.gr", b"p sp 1 1\n")
     write("texts/a:b,c.ss", b"p aux sp ss 0\n")
     lines = b"::warning file=a%3Ab%2Cc.ss::./a:b,c.ss: accepted ss, no graph\n"
     lines += b"::error file=bad.gr,title=dnorm%3A 20 TooFewLines::./bad.gr:end: 20 TooFewLines%0AThere are fewer "
     lines += b"counted lines than declared.%0Adeclared 1, found 0: only a, s, q and v lines count\n"
     wanted = Answer(lines, b"2 accepted, 1 refused, 0 failed, 1 companion without a graph\n", 2)
-    assert runner.run()[-1] == wanted, "a repository with a refused text and a companion alone"
+    assert runner.run()[1] == wanted, "a repository with a refused text and a companion alone"
+    assert ">2 accepted, 1 refused, 0 failed, " in text_of("temp/dnorm.html"), "its page"
     suite = ElementTree.parse("temp/dnorm.xml").find("testsuite")
     assert (suite is not None and suite.get("failures")) == "1", "its report"
     shutil.rmtree("texts")
     os.mkdir("texts")
-    assert runner.run()[-1].status == 4, "a repository without texts"
+    assert runner.run()[1].status == 4, "a repository without texts"
     write(f"release/dnorm-{VERSION}-x86_64-linux.tar.gz", b"other")
     found = runner.run()
-    assert (len(found), found[0].status) == (1, 1), "a release with another checksum"
+    assert (len(found), found[0].status) == (2, 1), "a release with another checksum"
 
 
 def test_pre_commit() -> None:

@@ -3,6 +3,7 @@
 
 import contextlib
 import ctypes
+import hashlib
 import json
 import os
 import re
@@ -20,6 +21,7 @@ from shared import LIMIT, Answer, bytes_of, run, said, write
 from test_calls import BOTH, COMPRESS, PACKAGE, READS, fake
 
 from dnorm.commands.tasks import DONE
+from dnorm.records import SIZES
 
 pytestmark = READS
 ENVIRONMENT = {"PYTHONPATH": PACKAGE, "PYTHONDONTWRITEBYTECODE": "1"}
@@ -102,7 +104,7 @@ CHECKS = [
         "0 accepted, 0 refused, 1 failed, 1 other file", 4),
     ("-- set/s.ss", "set/s.ss: accepted ss\n", "1 accepted, 0 refused, 0 failed", 0),
 ]  # fmt: skip
-COMMANDS = ["check", "manifest", "same", "list", "compare"]
+COMMANDS = ["check", "manifest", "same", "list", "compare", "look"]
 # Numbers of Linux.
 PR_CAPBSET_DROP, CAP_DAC_OVERRIDE, CAP_DAC_READ_SEARCH = 24, 1, 2
 # Arguments that are refused.
@@ -112,6 +114,7 @@ WRONG = [
     *["check --form 2 set", "check --junit", "check --timeout 0 set", "check --json --output-format github set"],
     *[f"{it} --timeout {seconds} set" for it in ("check", "list", "compare set") for seconds in NO_SECONDS],
     *[f"check --jobs {it} set" for it in ("nan", "-1", "1.5", "1e3")],
+    *["look", "look set set set", "look --since x set set", "look --timeout 0 set"],
     *["check --output-format xml set", "check --csv set", "check --files0-from", "check --files0-from - -"],
     *["check --staged=x set", "check --staged -q", "check --incremental x set", "manifest --staged"],
     *["manifest", "manifest --form 3 set", "manifest --verify x --form 2", "manifest --verify x --output y"],
@@ -219,7 +222,7 @@ def test_odd_names() -> None:
         "".join(f"{ODD[it]}: accepted sp\n" for it in names), count, 0
     ), "odd names"
     found = module("check", "--json", "--", *names)
-    told = [json.loads(it)["name"] for it in found.out.splitlines()]
+    told = [json.loads(it)["name"] for it in found.out.splitlines()[:-1]]
     assert told == names, "odd names in JSON"
     module("check", "--junit", "report", "--", *names)
     cases = [str(it.get("name")) for it in ElementTree.parse("report").iter("testcase")]
@@ -246,18 +249,26 @@ def test_reports() -> None:
     assert (found.err, found.status) == (b"11 accepted, 2 refused, 1 failed, 4 other files\n", 4), "--json"
     records = [json.loads(it) for it in found.out.splitlines()]
     names = sorted(["missing", *SET])
-    assert [it["name"] for it in records] == names, "names in JSON"
-    of = {it["name"]: it for it in records}
-    wanted: dict[str, object] = {"name": "set/a-b.gr", "status": "accepted", "kind": "sp", "forms": [1, 2]}
-    wanted |= {"remarks": []}
+    assert [it["name"] for it in records[:-1]] == names, "names in JSON"
+    ended: dict[str, object] = {"accepted": 11, "refused": 2, "failed": 1}
+    ended |= dict.fromkeys(("without_graph", "graph_not_accepted", "other_kind", "excluded"), 0)
+    ended |= {"other_files": 4, "status": 4, "form": 1, "unfinished": None}
+    assert records[-1] == {"summary": ended}, "the counts in JSON"
+    of = {it["name"]: it for it in records[:-1]}
+    assert all(it.pop("seconds") > 0 for name, it in of.items() if name != "missing"), "seconds"
+    nothing = dict.fromkeys(["kind", "forms", "error", "line", "number", "word", "sentence", "text", "hint", "graphs"])
+    nothing |= {"not_accepted": None, "remarks": [], "checksum": None, **dict.fromkeys(SIZES)}
+    wanted: dict[str, object] = {**nothing, "name": "set/a-b.gr", "status": "accepted", "kind": "sp", "nodes": 3}
+    wanted |= {"forms": [1, 2], "bytes": len(ROADS_CANON), "declared": 5, "canonical": 5, "merged": 0}
+    wanted |= {"self_loops": 1, "checksum": hashlib.sha256(ROADS_CANON).hexdigest()}
     assert of["set/a-b.gr"] == wanted, "an accepted file in JSON"
-    wanted = {"name": "set/bad.max", "status": "refused", "error": "set/bad.max:end: 19 MissingTerminal", "line": None}
+    wanted = {**nothing, "name": "set/bad.max", "status": "refused", "error": "set/bad.max:end: 19 MissingTerminal"}
     wanted |= {"number": 19, "word": "MissingTerminal", "sentence": "A max file has no source or no sink."}
-    wanted |= {"text": None, "hint": TERMINAL}
+    wanted |= {"hint": TERMINAL}
     assert of["set/bad.max"] == wanted, "a refused file in JSON"
     assert (of["set/v.co"]["line"], of["set/v.co"]["text"]) == (2, "s 1"), "the line of a fault in JSON"
-    wanted = {"name": "missing", "status": "failed", "error": MISSING[:-1], "hint": None}
-    assert of["missing"] == wanted, "a missing file in JSON"
+    wanted = {**nothing, "name": "missing", "status": "failed", "error": MISSING[:-1], "seconds": 0}
+    assert {**of["missing"], "seconds": 0} == wanted, "a missing file in JSON"
     suite = ElementTree.parse("report").find("testsuite")
     assert suite is not None
     times = [float(it.attrib.pop("time")) for it in [*suite, suite]]
@@ -379,7 +390,7 @@ def test_signals() -> None:
                 time.sleep(0.01)
             process.send_signal(number)
             out, err = process.communicate(timeout=LIMIT)
-            done = DONE["verify" if "--verify" in words else words.split()[0]]
+            done = "the same" if "--verify" in words else DONE[words.split()[0]]
             line = f"0 {done}, 0 refused, 0 failed, 0 of 9 done\n".encode()
             assert (out, err, process.returncode) == (b"", line, -number), f"{words} after {number.name}"
             assert (bytes_of("kept"), hidden(), still_running()) == (b"old", [], []), f"{words} leaves"
@@ -489,6 +500,11 @@ def by_shell(text: str) -> Answer:
     return run(["bash", "-c", f'dnorm() {{ "$PYTHON" -m dnorm "$@"; }}; {text}'], env=environment)
 
 
+def timeless(text: bytes) -> bytes:
+    """Returns records without their times."""
+    return re.sub(rb'"seconds": [0-9.e-]+', b"", text)
+
+
 @pytest.mark.parametrize("words", PRINTING)
 def test_outputs(tested: str, words: str) -> None:
     """Streams that are closed, full or broken."""
@@ -505,7 +521,7 @@ def test_outputs(tested: str, words: str) -> None:
     right = module(*words.split())
     for to in ["2>&-", "2> /dev/full", "<&-", "<&- 2>&-"]:
         found = by_shell(f"dnorm {words} {to}")
-        assert (found.out, found.status) == (right.out, right.status), to
+        assert (timeless(found.out), found.status) == (timeless(right.out), right.status), to
 
 
 def test_all_streams() -> None:

@@ -15,8 +15,8 @@ from test_folders import ENVIRONMENT, MODULE
 
 import dnorm
 import dnorm.files
-from dnorm.commands.listing import Listed, listed
 from dnorm.library import library_of
+from dnorm.records import Reading, Record
 
 pytestmark = [*READS, BOTH]
 OTHER = b"p sp 1 1\na 1 1 1\n"
@@ -42,7 +42,7 @@ def test_pipes() -> None:
         found = by_bash(words)
         assert found.status == status, f"the status of {words}: {found.err!r}"
         if out is None:
-            record = json.loads(found.out or b"{}")
+            record = json.loads(found.out.partition(b"\n")[0] or b"{}")
             assert {it: record.get(it) for it in facts} == facts, words
         else:
             assert found.out.decode() == out, words
@@ -82,8 +82,11 @@ class Meanwhile:
         return found
 
 
-def list_of(name: str) -> Listed:
-    return listed(name, 1, None, library_of(None), None)
+def record_of(name: str) -> Record:
+    found = Reading(None, library_of(None), tells="contents").record(name)
+    if found.error:
+        raise found.error
+    return found._replace(seconds=0)
 
 
 CALLS: dict[str, Callable[[], object]] = {
@@ -91,7 +94,7 @@ CALLS: dict[str, Callable[[], object]] = {
     "checksum": lambda: dnorm.checksum("t.gr"), "read": lambda: dnorm.read("t.gr"),
     "compare": lambda: dnorm.compare("t.gr", "other.gr"),
     "differences, left": lambda: dnorm.differences("t.gr", "other.gr"),
-    "differences, right": lambda: dnorm.differences("other.gr", "t.gr"), "list": lambda: list_of("t.gr"),
+    "differences, right": lambda: dnorm.differences("other.gr", "t.gr"), "list": lambda: record_of("t.gr"),
 }  # fmt: skip
 
 
@@ -137,7 +140,7 @@ sys.path.insert(0, sys.argv[2])
 if sys.argv[1] == "without":
     sys.modules["numpy"] = None
 import dnorm
-from dnorm.commands.listing import listed
+from dnorm.records import Reading
 from dnorm.library import library_of
 chance = random.Random(64)
 LIMITS = {"sp": [(-2**63, 2**63 - 1)], "max": [(0, 2**40)], "min": [(0, 3), (3, 2**62), (-2**63, 2**63 - 1)]}
@@ -161,7 +164,8 @@ for kind in LIMITS:
             open("left", "wb").write(texts[0])
             try:
                 found = dnorm.differences(*texts), dnorm.differences(*texts, 2)
-                print([vars(it) for it in found], listed("left", 2, None, library_of(None), None))
+                one = Reading(None, library_of(None), 2, tells="contents").record("left")
+                print([vars(it) for it in found], one._replace(seconds=0))
             except dnorm.Refused as error:
                 print(error)
 """

@@ -10,14 +10,17 @@ import shutil
 import socket
 import subprocess
 import time
+from collections.abc import Callable, Iterator
 from typing import Any
 
 from needs import leave_out, pass_over
-from shared import LIMIT, write
+from shared import LIMIT, ROOT, write
 
 # Keys by their names, as WebDriver has them.
 KEYS = {"TAB": "\ue004", "ENTER": "\ue007", "ESCAPE": "\ue00c", "SPACE": "\ue00d"}
 WIDTH, HEIGHT = 1000, 1400
+# Where pictures go of what a page shows at the end.
+PICTURES = f"{ROOT}/out/pictures"
 
 
 class Chromium:
@@ -161,3 +164,17 @@ def connected(port: int) -> socket.socket:
             if most < time.monotonic():
                 pass_over("a Firefox that begins")
             time.sleep(0.2)
+
+
+@contextlib.contextmanager
+def browsing(kind: Callable[[str], Any], folder: str, name: str) -> Iterator[Any]:
+    """Begins a browser with a folder of its own, and ends it: with a picture of what it then shows, by this name."""
+    os.makedirs(f"{folder}/saved")
+    browser = kind(folder)
+    try:
+        yield browser
+        assert browser.complaints() == []
+    finally:
+        os.makedirs(PICTURES, exist_ok=True)
+        browser.picture(f"{PICTURES}/{name}.png")
+        browser.end()

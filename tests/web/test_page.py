@@ -9,15 +9,13 @@ from collections.abc import Iterator
 from typing import Any
 
 import pytest
-from browsers import Chromium, Firefox
+from browsers import Chromium, Firefox, browsing
 from known import COSTS, ROADS
 from needs import pass_over
 from shared import ROOT, bytes_of, run, write
 
 pytestmark = [pytest.mark.whole, pytest.mark.xdist_group("page")]
 PAGES = [f"{ROOT}/web/out/dnorm.html", f"{ROOT}/released/dnorm.html"]
-# Where pictures of failures go.
-PICTURES = f"{ROOT}/out/pictures"
 IS_DONE = "return element('working').hidden && element('answers').children.length > 0"
 GIVE = "start(arguments[0].map(([name, text]) => new File([text], name)))"
 DROP = """const given = new DataTransfer();
@@ -120,18 +118,10 @@ class Page:
 def opened_page(request: pytest.FixtureRequest, tmp_path_factory: pytest.TempPathFactory) -> Iterator[Page]:
     if not any(os.path.exists(it) for it in PAGES):
         pass_over("the page (tools/wasm makes it)")
-    folder = str(tmp_path_factory.mktemp("browser"))
-    os.makedirs(f"{folder}/saved")
-    browser = request.param(folder)
-    page = Page(browser)
-    try:
+    with browsing(request.param, str(tmp_path_factory.mktemp("browser")), request.param.__name__) as browser:
+        page = Page(browser)
         browser.go(page.url)
         yield page
-        assert browser.complaints() == []
-    finally:
-        os.makedirs(PICTURES, exist_ok=True)
-        browser.picture(f"{PICTURES}/{request.param.__name__}.png")
-        browser.end()
 
 
 @pytest.mark.parametrize("files, wanted", SHOWN, ids=lambda it: it[0][0] if isinstance(it[0], tuple) else "")

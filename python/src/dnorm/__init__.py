@@ -19,7 +19,8 @@ seconds raises `TimedOut`.
 A text that the program refuses raises `Refused`, and any other failure another `DnormError`. If reading a text fails,
 or a compressed file is corrupt, no call returns an answer for it.
 
-`dnorm-files`, or `python3 -m dnorm`, checks and lists folders, and makes and verifies checksums of their files."""
+`check_folder` checks all texts of a folder, and `read_manifest` and `manifest_changes` tell how checksums have changed.
+`dnorm-files`, or `python3 -m dnorm`, does more with folders."""
 
 from . import alone  # noqa: F401
 from .answers import Checked, Difference, Same
@@ -27,13 +28,16 @@ from .calls import canon, canon_to, check, checksum, compare, write
 from .columns import Column
 from .errors import DnormError, Endless, Killed, Memory, NoProgram, Read, Refused, TimedOut, Unexpected, Write
 from .files import File, Readable, Target, Writable
+from .folders import Collection, check_folder
 from .instances import Co, Graph, Instance, Max, Min, P2p, Sp, Ss, Star, from_arrays
 from .library import find_library
 from .lines import ArcLines
+from .manifests import Changes, Manifest, manifest_changes, read_manifest
 from .networks import from_networkx, from_scipy
 from .pairs import PairDifference
 from .program import find_program, version
 from .reader import read
+from .records import Contents, Range, Record
 from .refusals import REFUSALS
 from .summary import Differences, differences
 
@@ -41,9 +45,10 @@ from .summary import Differences, differences
 __version__ = "3.0.0.dev0"
 
 __all__ = [
-    "REFUSALS", "ArcLines", "Checked", "Co", "Column", "Difference", "Differences", "DnormError", "Endless", "File",
-    "Graph", "Instance", "Killed", "Max", "Memory", "Min", "NoProgram", "P2p", "PairDifference", "Read", "Readable",
-    "Refused", "Same", "Sp", "Ss", "Star", "Target", "TimedOut", "Unexpected", "Writable", "Write", "canon",
-    "canon_to", "check", "checksum", "compare", "differences", "find_library", "find_program", "from_arrays",
-    "from_networkx", "from_scipy", "read", "version", "write",
+    "ArcLines", "Changes", "Checked", "Co", "Collection", "Column", "Contents", "Difference", "Differences",
+    "DnormError", "Endless", "File", "Graph", "Instance", "Killed", "Manifest", "Max", "Memory", "Min", "NoProgram",
+    "P2p", "PairDifference", "REFUSALS", "Range", "Read", "Readable", "Record", "Refused", "Same", "Sp", "Ss", "Star",
+    "Target", "TimedOut", "Unexpected", "Writable", "Write", "canon", "canon_to", "check", "check_folder", "checksum",
+    "compare", "differences", "find_library", "find_program", "from_arrays", "from_networkx", "from_scipy",
+    "manifest_changes", "read", "read_manifest", "version", "write",
 ]  # fmt: skip

@@ -7,6 +7,7 @@ import contextlib
 import ctypes
 import functools
 import hashlib
+import operator
 import os
 from array import array
 from collections.abc import Iterator
@@ -160,12 +161,27 @@ class Held:
         self.pairs: int = facts.pairs
         self._item_count: int = facts.items
 
+    def count(self, form: int) -> int:
+        """Returns the number of canonical arcs in a form, or of the items of a companion."""
+        if self.kind not in GRAPHS:
+            return self._item_count
+        return self._counted(self._library.arc_count(self._handle, form))
+
     def columns(self, form: int) -> list[Any]:
         """Returns the columns of the arcs in a form, or of the items of a companion."""
         if self.kind not in GRAPHS:
             return self._items(self._width)
-        count = self._counted(self._library.arc_count(self._handle, form))
-        return self._copied(functools.partial(self._library.next, self._handle, form), count, 5, self._width)
+        columns = [room_for(self.count(form)) for _ in range(self._width)]
+        call = functools.partial(self._library.next, self._handle, form)
+        self._copied(call, self.count(form), 5, columns)
+        return [column(it) for it in columns]
+
+    def loops(self, form: int) -> int:
+        """Returns how many arcs in a form end where they begin."""
+        call, found = functools.partial(self._library.next, self._handle, form), 0
+        for _, some in self._rooms(call, self.count(form), 5):
+            found += sum(map(operator.eq, some[::5], some[1::5]))
+        return found
 
     def items(self) -> list[tuple[int, int]]:
         """Returns the first two numbers of what a graph has beside its arcs."""
@@ -174,18 +190,23 @@ class Held:
 
     def _items(self, width: int) -> list[Any]:
         """Returns the first columns of the items, which have three numbers each."""
-        return self._copied(functools.partial(self._library.items, self._handle), self._item_count, 3, width)
-
-    def _copied(self, call: Any, count: int, numbers: int, width: int) -> list[Any]:
-        """Returns the first columns of what a call copies from place to place, each with so many numbers."""
-        columns, place, room = [room_for(count) for _ in range(width)], Place(), room_for(numbers * ROOM)
-        at, some = room.buffer_info()[0], memoryview(room)
-        for done in range(0, count, ROOM):
-            more = self._counted(call(ctypes.byref(place), at, min(ROOM, count - done)))
-            for number, it in enumerate(columns):
-                memoryview(it)[done : done + more] = some[number : numbers * more : numbers]
-            self._text.limit.left()
+        columns = [room_for(self._item_count) for _ in range(width)]
+        self._copied(functools.partial(self._library.items, self._handle), self._item_count, 3, columns)
         return [column(it) for it in columns]
+
+    def _copied(self, call: Any, count: int, numbers: int, columns: list[array[int]]) -> None:
+        """Copies what a call copies from place to place, each with so many numbers, into the first columns."""
+        for done, some in self._rooms(call, count, numbers):
+            for number, it in enumerate(columns):
+                memoryview(it)[done : done + len(some) // numbers] = some[number::numbers]
+
+    def _rooms(self, call: Any, count: int, numbers: int) -> Iterator[tuple[int, memoryview]]:
+        """Yields what a call copies from place to place, room by room, and how much came before."""
+        place, room = Place(), room_for(numbers * min(count, ROOM))
+        for done in range(0, count, ROOM):
+            more = self._counted(call(ctypes.byref(place), room.buffer_info()[0], min(ROOM, count - done)))
+            yield done, memoryview(room)[: numbers * more]
+            self._text.limit.left()
 
     def _counted(self, found: Any) -> int:
         """Returns the count of a call. Raises an error if it has another code than that of success."""

@@ -28,6 +28,8 @@ STEP = 10_000
 Key = tuple[int, ...]
 # The values of the arcs of a pair. There are none if the text has no such pair.
 Arcs = tuple[tuple[int, ...], ...]
+# Amounts with their least costs.
+Curve = tuple[tuple[int, int], ...]
 
 
 @dataclass(frozen=True)
@@ -39,6 +41,28 @@ class PairDifference:
     key: Key
     left: Arcs
     right: Arcs
+
+    def curves(self) -> tuple[Curve, Curve]:
+        """Returns the least costs of the left and of the right arcs, if they are those of a `min` text.
+
+        A curve is the corners (amount, least cost) by rising amount. An amount is how many units the arcs of the pair
+        carry together. The lower bounds are the least amount; each further unit takes the cheapest arc that has room,
+        so the cost of an amount between two corners is on the line between them, and any other amount is infeasible. A
+        pair without arcs carries no unit, at no cost."""
+        return curve_of(self.left), curve_of(self.right)
+
+
+def curve_of(arcs: Arcs) -> Curve:
+    """Returns the least costs of the arcs of a pair, each with LOW, CAP and COST."""
+    if any(len(it) != 3 for it in arcs):
+        raise TypeError("only the arcs of a min text have costs")
+    amount, cost = sum(low for low, _, _ in arcs), sum(low * each for low, _, each in arcs)
+    corners = [(amount, cost)]
+    for low, cap, each in sorted(arcs, key=itemgetter(2)):
+        if cap > low:
+            amount, cost = amount + cap - low, cost + (cap - low) * each
+            corners.append((amount, cost))
+    return tuple(corners)
 
 
 class Rows(NamedTuple):
@@ -58,6 +82,21 @@ def rows_of(it: Instance) -> Rows:
     return Rows(keys, [getattr(it, name) for name in VALUES[it.kind].values()])
 
 
+def arcs_around(it: Graph, node: int) -> dict[Key, Arcs]:
+    """Returns the arcs from a node and to it, by their pairs."""
+    np = numpy_here()
+    if np is None:
+        places = [at for at, ends in enumerate(zip(it.tails, it.heads)) if node in ends]
+    else:
+        places = np.flatnonzero((it.tails == node) | (it.heads == node)).tolist()
+    columns = [it.tails, it.heads, *(getattr(it, name) for name in VALUES[it.kind].values())]
+    found: dict[Key, Arcs] = {}
+    for at in places:
+        tail, head, *values = (int(column[at]) for column in columns)
+        found[tail, head] = (*found.get((tail, head), ()), tuple(values))
+    return found
+
+
 def paired(left: Instance, right: Instance, limit: int | None, time: Limit) -> dict[str, Any]:
     """Returns how the pairs of two instances of one kind differ, as attributes of `Differences`, with at most `limit`
     of the differing pairs. The instances are those of canonical texts. With numpy, pairs that are the same are left out
@@ -69,7 +108,8 @@ def paired(left: Instance, right: Instance, limit: int | None, time: Limit) -> d
         ours, theirs, same = without_same(np, ours, theirs, time)
     counts = Counter(both=same)
     fields: Counter[str] = Counter()
-    differing: list[PairDifference] = []
+    shared: list[PairDifference] = []
+    alone: list[PairDifference] = []
     for at, (key, one, other) in enumerate(merged(pairs_of(ours), pairs_of(theirs))):
         if at % STEP == 0:
             time.left()
@@ -77,14 +117,17 @@ def paired(left: Instance, right: Instance, limit: int | None, time: Limit) -> d
         counts[where] += 1
         if one == other:
             continue
-        # Those that one text lacks are compared with their opposites.
-        if where != "both" or limit is None or len(differing) < limit:
-            differing.append(PairDifference(key, one, other))
+        if where != "both":
+            # It is compared with its opposite.
+            alone.append(PairDifference(key, one, other))
+        elif limit is None or len(shared) < limit:
+            shared.append(PairDifference(key, one, other))
         if where == "both":
             counts["different"] += 1
             fields[differing_fields(left.kind, one, other)] += 1
-    turned = reversed_pairs(differing) if isinstance(left, Graph) else ()
-    return {**counts, "fields": tuple(fields.most_common()), "reversed": turned, "pairs": tuple(differing[:limit])}
+    turned = reversed_pairs(alone) if isinstance(left, Graph) else ()
+    pairs = tuple((shared + alone)[:limit])
+    return {**counts, "fields": tuple(fields.most_common()), "reversed": turned, "pairs": pairs}
 
 
 def without_same(np: Any, left: Rows, right: Rows, time: Limit) -> tuple[Rows, Rows, int]:

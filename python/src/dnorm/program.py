@@ -34,8 +34,9 @@ versions: dict[tuple[str, ...], str] = {}
 # Why no program starts after Children.stop.
 STOPPED = "all runs were stopped"
 # Where the page on the commands and calls is, from here: in a wheel, in a clone or an archive, and where `./install`
-# and Debian put it.
-PAGES = ["FILES.md", *(f"../../../{it}/FILES.md" for it in ("docs", "doc/dnorm/docs", "../share/doc/dnorm/docs"))]
+# and Debian put it; and where the files of pages of HTML are.
+PAGES = ["", "../../../docs", "../../../doc/dnorm/docs", "../../../../share/doc/dnorm/docs"]
+WEB = ["", "../../../web", "../../web", "../../../../share/dnorm/web"]
 
 
 class Children:
@@ -106,9 +107,14 @@ def find_program(program: Program = None) -> str:
 
 def page() -> str:
     """Returns the path of the page that describes the commands and the calls, or its name if it is not there."""
+    return placed("FILES.md", PAGES) or "docs/FILES.md"
+
+
+def placed(name: str, places: Sequence[str]) -> str:
+    """Returns the path of a file that is in one of these places, or nothing."""
     here = os.path.dirname(os.path.realpath(__file__))
-    found = (os.path.normpath(os.path.join(here, it)) for it in PAGES)
-    return next(filter(os.path.isfile, found), "docs/FILES.md")
+    found = (os.path.normpath(os.path.join(here, it, name)) for it in places)
+    return next(filter(os.path.isfile, found), "")
 
 
 def where() -> str:

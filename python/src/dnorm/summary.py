@@ -14,7 +14,7 @@ from .files import File, Pieces, Sink, Text, enough_memory, name_of
 from .instances import AnyInstance, Graph, Instance, Max, Min, whole
 from .library import GRAPHS, Held, Library, held, library_of
 from .limits import Limit, at_once
-from .pairs import Key, PairDifference, paired
+from .pairs import Key, PairDifference, arcs_around, paired
 from .program import Program
 from .reader import Reader, instance_by
 
@@ -28,10 +28,13 @@ class Differences:
     text has, and whose opposite with the same arcs only the right one has. `supplies` is the number of nodes whose
     flows differ. `fields` counts the different pairs by the fields that differ, as `low cap`, or `arcs` if the numbers
     of arcs do. `values` has the names `nodes`, `source` and `sink` with both values, where these differ. `pairs` has
-    the first differing pairs. For companions, points or items are counted instead of pairs. Texts of different kinds
-    have nothing but `first`."""
+    the first differing pairs: those that both texts have, and then the others. For companions, points or items are
+    counted instead of pairs. `left` and `right` are the instances, in form 2. Texts of different kinds have nothing
+    else but `first`."""
 
     first: Union[Same, AnyDifference]
+    left: AnyInstance
+    right: AnyInstance
     kind: Optional[str] = None
     only_left: int = 0
     only_right: int = 0
@@ -42,6 +45,13 @@ class Differences:
     fields: tuple[tuple[str, int], ...] = ()
     values: tuple[tuple[str, int, int], ...] = ()
     pairs: tuple[PairDifference, ...] = ()
+
+    def around(self, node: int) -> tuple[PairDifference, ...]:
+        """Returns the pairs of two graphs from a node and to it, with the arcs of both, which may be the same."""
+        if not isinstance(self.left, Graph) or not isinstance(self.right, Graph):
+            raise TypeError("only graphs have arcs")
+        one, other = arcs_around(self.left, node), arcs_around(self.right, node)
+        return tuple(PairDifference(it, one.get(it, ()), other.get(it, ())) for it in sorted(one | other))
 
     def __repr__(self) -> str:
         counts = [f"{it}={getattr(self, it)}" for it in ("only_left", "only_right", "both", "different")]
@@ -70,19 +80,16 @@ def by_library(library: Library, files: tuple[File, File], limit: Optional[int],
     """Returns how two texts differ, by the library, which reads each of them once."""
     with contextlib.ExitStack() as later, contextlib.ExitStack() as sooner:
         left, right = both_read(library, files, (sooner, later), time)
-        first, kind = left.first_difference(right), left.kind
-        if first:
-            found = Differences(first, kind, both=left.pairs if kind in GRAPHS else left.lines)
-        elif kind != right.kind:
-            found = Differences(first)
-        else:
-            one = instance_by(left, 2)
-            # The library keeps the left text no longer than it is needed.
-            sooner.close()
+        first, both = left.first_difference(right), left.pairs if left.kind in GRAPHS else left.lines
+        one = other = instance_by(left, 2)
+        # The library keeps the left text no longer than it is needed.
+        sooner.close()
+        if not first:
             other = instance_by(right, 2)
-            later.close()
-            found = summary(first, one, other, limit, time)
-    return found
+        later.close()
+    if first:
+        return Differences(first, one, other, one.kind, both=both)
+    return summary(first, one, other, limit, time)
 
 
 def both_read(
@@ -106,7 +113,7 @@ def by_program(program: Program, files: tuple[File, File], limit: Optional[int],
     texts."""
     (left, one), (right, other) = (kept(program, it, time) for it in files)
     first = answer(compared, lambda *names: ["compare", *names], [left, right], program, time)
-    return Differences(first) if one.kind != other.kind else summary(first, one, other, limit, time)
+    return summary(first, one, other, limit, time)
 
 
 def kept(program: Program, file: File, limit: Limit) -> tuple[Pieces, AnyInstance]:
@@ -123,11 +130,14 @@ def kept(program: Program, file: File, limit: Limit) -> tuple[Pieces, AnyInstanc
 
 
 def summary(
-    first: Same | AnyDifference, left: Instance, right: Instance, limit: int | None, time: Limit
+    first: Same | AnyDifference, left: AnyInstance, right: AnyInstance, limit: int | None, time: Limit
 ) -> Differences:
-    """Returns the differences between two instances of one kind."""
+    """Returns the differences between two instances."""
+    if left.kind != right.kind:
+        return Differences(first, left, right)
+    counted = paired(left, right, limit, time)
     supplies, values = differing_supplies(left, right), tuple(differing_values(left, right))
-    return Differences(first, left.kind, supplies=supplies, values=values, **paired(left, right, limit, time))
+    return Differences(first, left, right, left.kind, supplies=supplies, values=values, **counted)
 
 
 def differing_supplies(left: Instance, right: Instance) -> int:

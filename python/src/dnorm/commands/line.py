@@ -18,6 +18,7 @@ from ..files import failing
 from ..limits import LONGEST
 from ..names import ENDINGS
 from ..program import page, processors, version
+from ..records import Record
 from .reports import cause_of, line_of
 from .tasks import FAILED, REFUSED, USAGE, Run
 
@@ -36,6 +37,7 @@ $DNORM names the program, or a command that runs it; $DNORM_LIBRARY the library,
 # Commands of the program, and what is an option here.
 OTHER_COMMANDS = {it: f"{it} is a command of the program: dnorm {it} FILE" for it in ("canon", "show")}
 OTHER_COMMANDS |= {it: f"{it} is an option here: --{it}" for it in ("help", "version")}
+EXCLUDE = "leave out what folders have by this name or path, where * stands for any characters; repeatable"
 FORMATS = ("text", "json", "github")
 TASKS = {
     "check": "Checks files, and prints a line for each: NAME: accepted KIND, or the refusal.",
@@ -43,6 +45,7 @@ TASKS = {
     "same": "Prints the names of files that pose the same problem, in groups.",
     "list": "Prints what each file contains: sizes, ranges and sums of its numbers, and its checksum.",
     "compare": "Prints the first difference between two files, how many pairs differ, and the first of these.",
+    "look": "Prints a page of HTML: where two files differ, or what is in a folder.",
 }
 
 
@@ -67,8 +70,11 @@ def parser() -> Parser:
         if task == "compare":
             add_comparison(one)
         else:
-            add_files(one, task)
-            add_outputs(one, task)
+            if task == "look":
+                add_looks(one)
+            else:
+                add_files(one, task)
+                add_outputs(one, task)
             about = "files at the same time, by default one for each processor"
             one.add_argument("-j", "--jobs", type=number(1), default=processors(), metavar="N", help=about)
         one.add_argument("--timeout", type=seconds, metavar="SECONDS", help="a file that takes longer is a failure")
@@ -93,8 +99,7 @@ def add_files(one: argparse.ArgumentParser, task: str) -> None:
     add("--files0-from", metavar="FILE", help="also the names in FILE, or with - on standard input, each ended by NUL")
     about = f"search folders for names with this ending; repeatable; by default {' '.join(ENDINGS)}"
     add("--ending", action="append", metavar="END", help=f"{about}; that of a compression may follow each")
-    about = "leave out what folders have by this name or path, where * stands for any characters; repeatable"
-    add("--exclude", action="append", default=[], metavar="PATTERN", help=about)
+    add("--exclude", action="append", default=[], metavar="PATTERN", help=EXCLUDE)
     add("--strict", action="store_true", help="other files of folders are failures, and for check files with a remark")
     if task == "check":
         add("-x", "--exit-first", action="store_true", help="end after the first file that is refused or fails")
@@ -129,6 +134,15 @@ def add_outputs(one: argparse.ArgumentParser, task: str) -> None:
         alone("--output", metavar="FILE", help="write into FILE, once everything is known")
         about = "renew FILE, or make it, with sizes and times, and read only files that are new or were written"
         alone("--incremental", metavar="FILE", help=about)
+
+
+def add_looks(one: argparse.ArgumentParser) -> None:
+    """Adds the arguments of `look`."""
+    one.add_argument("path", nargs="+", metavar="PATH", help="two files; or a folder")
+    about = "of a folder: name the files that are new, gone, renamed or otherwise than in this manifest"
+    one.add_argument("--since", metavar="FILE", help=about)
+    one.add_argument("--exclude", action="append", default=[], metavar="PATTERN", help=EXCLUDE)
+    one.set_defaults(files0_from=None)
 
 
 def add_comparison(one: argparse.ArgumentParser) -> None:
@@ -174,7 +188,9 @@ def check_files(found: argparse.Namespace, error: Callable[[str], NoReturn]) -> 
             error("--quiet goes with --verify")
         found.task = "manifest" if found.verify is None else "verify"
     found.form = getattr(found, "form", None) or 1
-    found.ending = found.ending or ENDINGS
+    found.ending = getattr(found, "ending", None) or ENDINGS
+    if found.task == "look" and (len(found.path) > 2 or found.since is not None and len(found.path) > 1):
+        error("look takes two files, or one folder, and --since one folder")
 
 
 def named(found: argparse.Namespace) -> list[str]:
@@ -226,7 +242,8 @@ def main(words: Sequence[str] | None = None) -> int:
         end_by(stopped.number, run)
         return FAILED
     except DnormError as error:
-        console.complain(line_of(error.name, error) + "".join(f"    {it}\n" for it in cause_of(error)))
+        failed = Record(error.name, error=error)
+        console.complain(line_of(failed) + "".join(f"    {it}\n" for it in cause_of(failed)))
         return REFUSED if isinstance(error, Refused) else FAILED
     except Exception:
         console.complain(traceback.format_exc())

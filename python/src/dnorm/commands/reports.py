@@ -2,30 +2,25 @@
 
 from __future__ import annotations
 
-import dataclasses
-import json
+import csv
+import io
 import os
 import re
 from collections.abc import Iterator, Sequence
-from typing import NamedTuple, Union
 from xml.etree import ElementTree
 
-from ..errors import DnormError, Read, Refused
+from ..errors import Refused
+from ..manifests import line_with
+from ..pairs import VALUES
+from ..records import SIZES, Contents, Range, Record
 from ..summary import Differences
-from .checks import Accepted
 
-# What a check of a file leads to.
-Result = Union[Accepted, DnormError]
-
-
-class Case(NamedTuple):
-    """A file, what its check leads to, and how many seconds that took."""
-
-    name: str
-    result: Result
-    seconds: float
-
-
+# The sums that `list` tells.
+SUMS = ("capacity", "capacity_times_cost", "supply", "demand")
+# The heads of the table of `list`.
+FIELDS = ("flow", "id", *dict.fromkeys(field for fields in VALUES.values() for field in fields))
+HEADS = ["name", "kind", *SIZES, *(it for it in Contents._fields if it != "fields"), "checksum"]
+HEADS += [f"{it}_{of}" for it in FIELDS for of in Range._fields]
 # The letters of the lines that tell arcs, points and items, and what these are called.
 LINES = {"co": ("v", "points"), "ss": ("s", "items"), "p2p": ("q", "items")}
 # Characters that XML cannot contain, and half characters, by which Python represents the bytes of names that are not
@@ -35,89 +30,64 @@ NO_XML = re.compile("[^\t\n\r\x20-\ud7ff\ue000-\ufffd\U00010000-\U0010ffff]")
 NO_MESSAGE, NO_PROPERTY = re.compile("[%\r\n]"), re.compile("[%\r\n:,]")
 
 
-# How names are written that lines cannot have.
-ESCAPES = {"\\": r"\\", "\n": r"\n", "\r": r"\r", "\t": r"\t"}
-
-
-def line_with(name: str, before: str = "", after: str = "", more: str = "", *, has_tabs: bool = True) -> str:
-    """Returns a line with the name of a file, and at its end with more that has names. As in a line of sha256sum, a
-    backslash, LF or CR in a name is written as two characters, and a backslash begins the line then; so is a tab, if
-    the line is to have none."""
-    table = str.maketrans({it: to for it, to in ESCAPES.items() if it != "\t" or not has_tabs})
-    plain, others = name.translate(table), more.translate(table)
-    return ("\\" if (plain, others) != (name, more) else "") + before + plain + after + others + "\n"
-
-
-def name_in(mark: str, plain: str) -> str | None:
-    """Returns the name that `line_with` has written into a line, or None if it writes no name so. `mark` is the
-    backslash that begins the line, if one does."""
-    if not mark:
-        return plain
-    if not re.fullmatch(r"(?:[^\\]|\\[\\nrt])*", plain):
-        return None
-    meant = {written: it for it, written in ESCAPES.items()}
-    return re.sub(r"\\.", lambda it: meant[it[0]], plain)
-
-
-def told(name: str, error: DnormError) -> str:
-    """Returns what follows the name of a file in the line of an error."""
-    rest = error.rest if error.name == name else f": {error}"
-    return " ".join(rest.splitlines())
-
-
-def line_of(name: str, result: Result) -> str:
+def line_of(it: Record) -> str:
     """Returns the line of a file."""
-    if isinstance(result, DnormError):
-        return line_with(name, after=told(name, result))
-    more = [*([f"fits {', '.join(result.fits)}"] if result.fits else []), *result.remarks]
-    return line_with(name, after=f": accepted {result.kind}", more="".join(f", {it}" for it in more))
+    if it.error:
+        return line_with(it.name, after=it.what)
+    more = [*([f"fits {', '.join(it.graphs)}"] if it.graphs else []), *it.remarks]
+    return line_with(it.name, after=f": accepted {it.kind}", more="".join(f", {one}" for one in more))
 
 
-def cause_of(result: Result) -> list[str]:
+def cause_of(it: Record) -> list[str]:
     """Returns the lines that show the cause of a refusal, or of a compressed file that cannot be read."""
-    if isinstance(result, Read) and result.hint:
-        return result.hint.splitlines()
-    if not isinstance(result, Refused):
-        return []
-    lines = [f"line {result.line}: {result.text}"] if result.text is not None else []
-    return lines + (result.hint.splitlines() if result.hint else [])
+    lines = [f"line {it.error.line}: {it.error.text}"] if isinstance(it.error, Refused) and it.error.text else []
+    return lines + (it.hint.splitlines() if it.hint else [])
 
 
-def record_of(name: str, result: Result) -> dict[str, object]:
-    """Returns the JSON object of a file."""
-    if isinstance(result, Accepted):
-        found: dict[str, object] = {"name": name, "status": "accepted", "kind": result.kind, "forms": result.forms}
-        graphs = {} if result.fits is None else {"graphs": result.fits, "not_accepted": result.not_accepted}
-        return {**found, **graphs, "remarks": result.remarks}
-    found = {"name": name, "status": "failed", "error": f"{name}{told(name, result)}", "hint": None}
-    if isinstance(result, Read):
-        found["hint"] = result.hint
-    if isinstance(result, Refused):
-        found["status"] = "refused"
-        found.update(line=result.line, number=result.number, word=result.word, sentence=result.sentence)
-        found.update(text=result.text, hint=result.hint)
-    return found
+def text_of(it: Record) -> str:
+    """Returns the lines of `list` below the name of a file."""
+    lines, more = [f"bytes {it.bytes}"], ""
+    assert it.contents
+    if it.nodes is not None:
+        lines.append(f"nodes {it.nodes}, without arcs {it.contents.without_arcs}")
+        more = f", merged {it.merged}, self-loops {it.self_loops}"
+    lines.append(f"lines {it.declared}, canonical {it.canonical}{more}")
+    lines += [f"{field} {of.least} to {of.greatest}, {of.bits} bits" for field, of in it.contents.fields.items()]
+    sums = {name.replace("_", " "): getattr(it.contents, name) for name in SUMS}
+    told = [f"{what} {value}" for what, value in sums.items() if value is not None]
+    lines += [f"sums: {', '.join(told)}"] if told else []
+    lines.append(f"checksum {it.checksum}")
+    return "".join(f"    {line}\n" for line in lines)
 
 
-def as_json(record: dict[str, object]) -> str:
-    """Returns the line of a JSON object."""
-    return json.dumps(record) + "\n"
+def row_of(it: Record, is_first: bool) -> str:
+    """Returns the row of a file in the CSV table of `list`, with the heads before the first one."""
+    ranges = it.contents.fields if it.contents else {}
+    found = {f"{field}_{of}": value for field, range_ in ranges.items() for of, value in range_._asdict().items()}
+    rows: list[dict[str, object]] = [dict(zip(HEADS, HEADS))] if is_first else []
+    made = ""
+    for row in [*rows, {**it.as_dict(), **found}]:
+        text = io.StringIO()
+        # Only a terminator with CR has a name with CR quoted.
+        csv.DictWriter(text, HEADS, extrasaction="ignore", lineterminator="\r\n").writerow(row)
+        made += text.getvalue().removesuffix("\r\n") + "\n"
+    return made
 
 
-def annotation_of(name: str, result: Result) -> str:
+def annotation_of(it: Record) -> str:
     """Returns the line by which GitHub shows an error at a line of a file, or a warning about an accepted file with
     remarks. There is none for any other accepted file."""
-    properties = {"file": os.path.normpath(name)}
-    if isinstance(result, Accepted):
-        text = f"{name}: accepted {result.kind}, {', '.join(result.remarks)}"
-        return annotation("warning", properties, text) if result.remarks else ""
-    parts = [f"{name}{told(name, result)}"]
-    if isinstance(result, Refused):
-        if result.line is not None:
-            properties["line"] = str(result.line)
-        properties["title"] = f"dnorm: {result.number} {result.word}"
-        parts.append(result.sentence)
-    parts += cause_of(result)
+    properties = {"file": os.path.normpath(it.name)}
+    if not it.error:
+        text = f"{it.name}: accepted {it.kind}, {', '.join(it.remarks)}"
+        return annotation("warning", properties, text) if it.remarks else ""
+    parts = [f"{it.name}{it.what}"]
+    if isinstance(it.error, Refused):
+        if it.error.line is not None:
+            properties["line"] = str(it.error.line)
+        properties["title"] = f"dnorm: {it.error.number} {it.error.word}"
+        parts.append(it.error.sentence)
+    parts += cause_of(it)
     return annotation("error", properties, "\n".join(parts))
 
 
@@ -132,26 +102,26 @@ def escaped(text: str, forbidden: re.Pattern[str]) -> str:
     return forbidden.sub(lambda it: f"%{ord(it[0]):02X}", text)
 
 
-def junit(cases: Sequence[Case]) -> bytes:
+def junit(records: Sequence[Record]) -> bytes:
     """Returns a report in the XML of JUnit, with a test case for each file."""
-    counts = {"tests": len(cases), "failures": 0, "errors": 0}
+    counts = {"tests": len(records), "failures": 0, "errors": 0}
     suite = ElementTree.Element("testsuite", name="dnorm")
-    for name, result, seconds in cases:
-        attributes = {"classname": "dnorm", "name": for_xml(name), "time": f"{seconds:.6f}"}
+    for it in records:
+        attributes = {"classname": "dnorm", "name": for_xml(it.name), "time": f"{it.seconds:.6f}"}
         case = ElementTree.SubElement(suite, "testcase", attributes)
-        if isinstance(result, Refused):
+        if isinstance(it.error, Refused):
             counts["failures"] += 1
-            failure = ElementTree.SubElement(case, "failure", type=result.word, message=for_xml(str(result)))
-            failure.text = for_xml("\n".join([result.sentence, *cause_of(result)]))
-        elif isinstance(result, DnormError):
+            failure = ElementTree.SubElement(case, "failure", type=it.error.word, message=for_xml(str(it.error)))
+            failure.text = for_xml("\n".join([it.error.sentence, *cause_of(it)]))
+        elif it.error:
             counts["errors"] += 1
-            message = for_xml(f"{name}{told(name, result)}")
-            failure = ElementTree.SubElement(case, "error", type=type(result).__name__, message=message)
-            failure.text = for_xml("\n".join(cause_of(result))) or None
-        elif result.remarks:
-            ElementTree.SubElement(case, "system-out").text = for_xml(", ".join(result.remarks))
+            message = for_xml(f"{it.name}{it.what}")
+            failure = ElementTree.SubElement(case, "error", type=type(it.error).__name__, message=message)
+            failure.text = for_xml("\n".join(cause_of(it))) or None
+        elif it.remarks:
+            ElementTree.SubElement(case, "system-out").text = for_xml(", ".join(it.remarks))
     suite.attrib.update((it, str(count)) for it, count in counts.items())
-    suite.set("time", f"{sum(it.seconds for it in cases):.6f}")
+    suite.set("time", f"{sum(it.seconds for it in records):.6f}")
     suites = ElementTree.Element("testsuites")
     suites.append(suite)
     text: bytes = ElementTree.tostring(suites, encoding="utf-8", xml_declaration=True)
@@ -166,7 +136,8 @@ def for_xml(text: str) -> str:
 
 def record_of_differences(it: Differences) -> dict[str, object]:
     """Returns the JSON object of the differences of two texts."""
-    return {"same": bool(it.first), **dataclasses.asdict(it), "first": str(it.first)}
+    found = {name: value for name, value in vars(it).items() if name not in ("left", "right")}
+    return {**found, "same": bool(it.first), "first": str(it.first), "pairs": [vars(pair) for pair in it.pairs]}
 
 
 def lines_of_differences(it: Differences) -> Iterator[str]:

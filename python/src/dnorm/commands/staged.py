@@ -10,10 +10,10 @@ from contextlib import ExitStack, suppress
 
 from ..errors import DnormError, NoProgram, Read
 from ..files import failing, reason_of
+from ..folders import Found, error_of_name
 from ..names import COMPANIONS, ENDINGS, is_text, misnamed_text, parts_of
 from ..program import on_path
-from .checks import WITH_COMPANIONS
-from .folders import Found, error_of_name
+from ..records import WITH_COMPANIONS
 
 # What the modes of files and of links begin with. All others are submodules.
 FILE, LINK = "100", "120"

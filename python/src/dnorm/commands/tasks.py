@@ -1,43 +1,54 @@
-"""The commands of `dnorm-files` on many files."""
+"""The commands of `dnorm-files` on many files. Each reads its files once, and prints their records or views."""
 
 from __future__ import annotations
 
 import contextlib
 import errno
+import json
 import os
-import time
 from argparse import Namespace
 from collections import Counter
 from collections.abc import Callable, Sequence
-from typing import TypeVar
+from typing import Optional
 
-from ..answers import Form
-from ..calls import checksum
 from ..console import Console
-from ..errors import DnormError, Read, Refused
-from ..files import Text, failing, sink_of
-from ..library import held, library_of
-from ..limits import Limit
+from ..errors import Read
+from ..files import reason_of, sink_of
+from ..folders import Collection, Found, find, in_order_of_names
+from ..library import library_of
+from ..manifests import Entry, Mark, line_with, manifest_changes, manifest_in, mark_of, read_manifest
+from ..manifests import renewed
+from ..manifests import text_of as text_of_manifest
 from ..program import absolute
+from ..records import Partners, Reading, Record, Tells, counts_of
 from ..summary import differences
-from .checks import Accepted, Checker, Partners
-from .folders import Found, Workers, find, in_order_of_names, outcome
-from .listing import Listed, listed, record_of_listed, row_of, text_of_listed
-from .manifests import Entry, entries_of, entry_of, mark_of, text_of
-from .reports import Case, annotation_of, as_json, cause_of, junit, line_of, line_with, lines_of_differences, record_of
-from .reports import record_of_differences
+from .look import page_of_folder, page_of_pair
+from .reports import annotation_of, cause_of, junit, line_of, lines_of_differences, record_of_differences, row_of
+from .reports import text_of
 from .staged import staged
+from .workers import Workers
 
 # The exit statuses besides 0. The greatest one that applies counts.
 DIFFERS, REFUSED, USAGE, FAILED = 1, 2, 3, 4
 
 # What the accepted files are called at the end, by the commands.
-DONE = {"check": "accepted", "manifest": "listed", "verify": "the same", "same": "accepted", "list": "listed"}
-OTHER_KIND = "file of another kind than its ending"
-OTHER_KINDS = "files of another kind than their endings"
+DONE = {"check": "accepted", "manifest": "listed", "verify": "same", "same": "accepted", "list": "listed"}
+DONE["look"] = "accepted"
+# How what is counted is told, one and several. All else is told by its name.
+TOLD = {
+    "same": ("the same", "the same"), "groups": ("group", "groups"), "links": ("link", "links"),
+    "other_files": ("other file", "other files"),
+    "without_graph": ("companion without a graph", "companions without a graph"),
+    "graph_not_accepted": (
+        "companion of a graph that is not accepted", "companions of graphs that are not accepted",
+    ),
+    "other_kind": ("file of another kind than its ending", "files of another kind than their endings"),
+}  # fmt: skip
+# What is told also if there is none of it.
+ALWAYS = {*DONE.values(), "different", "refused", "failed"}
 
-Item = TypeVar("Item")
-Outcome = TypeVar("Outcome")
+# What reads a file, and tells its mark, if that is asked for.
+Task = Callable[[str], tuple[Record, Optional[Mark]]]
 
 
 class Incomplete(Exception):
@@ -45,16 +56,34 @@ class Incomplete(Exception):
 
 
 class Run:
-    """A run of a command, with the parsed arguments `words`. It counts what the files lead to."""
+    """A run of a command, with the parsed arguments `words`. It keeps the records of the files. `status` is that of
+    what has no record."""
 
     def __init__(self, words: Namespace, console: Console) -> None:
         self.words, self.console, self.library = words, console, library_of(words.program)
-        self.status = self.done = self.refused = self.failed = self.others = self.excluded = self.ended = 0
+        self.records: list[Record] = []
+        self.own = self.others = self.excluded = 0
         # How many files are done, if not all of them; what takes the results that a signal has left; and what prints
         # more about all results.
         self.unfinished = ""
         self.take_rest: Callable[[], None] = lambda: None
         self.print_rest: Callable[[], None] = lambda: None
+
+    @property
+    def status(self) -> int:
+        """The exit status."""
+        found = {it.status for it in self.records}
+        return FAILED if "failed" in found else REFUSED if "refused" in found else self.own
+
+    @property
+    def is_json(self) -> bool:
+        return bool(getattr(self.words, "json", False)) or getattr(self.words, "format", "") == "json"
+
+    def reading(self) -> Reading:
+        """Returns how checksums are read, and with them what JSON has."""
+        words = self.words
+        tells: Tells = "whole" if self.is_json else "checksum"
+        return Reading(words.program, self.library, words.form, tells=tells, timeout=words.timeout)
 
     def check(self) -> None:
         """Checks files, and prints a line for each, and at the end the refusals with their causes."""
@@ -62,12 +91,23 @@ class Run:
         with contextlib.ExitStack() as stack:
             found = self.staged(stack) if words.staged is not None else self.found()
             report = stack.enter_context(sink_of(words.junit)) if words.junit else None
-            cases = self.checked(found)
+            partners = self.partners(found) if words.companions else None
+            tells: Tells = "whole" if self.is_json else "kind"
+            reading = Reading(words.program, self.library, 1, partners, words.strict, tells, words.timeout)
+            self.print_rest = self.print_end
+            self.read(found, reading.record, self.print_record)
             if report:
-                report.take(junit(cases))
-        self.print_end(cases)
-        if words.staged is None or self.status or any(it.remarks for it in accepted(cases)):
-            self.sum_up_checks(cases)
+                report.take(junit(self.records))
+        self.print_end()
+        if words.staged is None or self.status or any(it.remarks for it in self.records):
+            self.sum_up_checks()
+
+    def partners(self, found: Found) -> Partners:
+        """Returns the partners of files, and adds the companions of graphs that are named."""
+        partners = Partners(found.files)
+        for name in [it for it in self.words.path if it in found.files]:
+            found.files.update(dict.fromkeys(it for it in partners.companions_of(name) if it not in found.files))
+        return partners
 
     def staged(self, stack: contextlib.ExitStack) -> Found:
         """Returns the texts that git has staged."""
@@ -76,167 +116,114 @@ class Run:
         words.program, words.junit = absolute(words.program), words.junit and os.path.abspath(words.junit)
         return staged(words.staged or None, stack)
 
-    def checked(self, found: Found) -> Sequence[Case]:
-        """Checks these files, prints a line for each, and returns what it found."""
-        words = self.words
-        partners = Partners(found.files if words.companions else ())
-        checker = Checker(
-            words.program,
-            words.timeout,
-            self.library,
-            partners=partners if words.companions else None,
-            has_forms=words.format == "json",
-            is_strict=words.strict,
-        )
-        for name in [it for it in words.path if words.companions and it in found.files]:
-            found.files.update(dict.fromkeys(it for it in partners.companions_of(name) if it not in found.files))
-        cases: list[Case] = []
-        self.print_rest = lambda: self.print_end(cases)
-
-        def take(case: Case) -> None:
-            self.count(case.result)
-            cases.append(case)
-            self.print_case(case)
-
-        self.each_file(found, checker.check, lambda name, result, seconds: take(Case(name, result, seconds)))
-        return cases
-
-    def sum_up_checks(self, cases: Sequence[Case]) -> None:
+    def sum_up_checks(self) -> None:
         """Prints what was counted of checks."""
-        found = accepted(cases)
-        alone = sum(it.is_alone for it in found)
-        unsure = sum(bool(it.not_accepted) for it in found)
-        self.sum_up(
-            f"{self.done} accepted",
-            counted(alone, "companion without a graph", "companions without a graph"),
-            counted(unsure, "companion of a graph that is not accepted", "companions of graphs that are not accepted"),
-            counted(sum(it.named is not None for it in found), OTHER_KIND, OTHER_KINDS),
-        )
+        found = counts_of(self.records)
+        self.sum_up({}, {it: found[it] for it in ("without_graph", "graph_not_accepted", "other_kind")})
 
-    def print_case(self, case: Case) -> None:
+    def print_record(self, it: Record) -> None:
         """Prints what the check of a file leads to. Of what is staged, refused and failed files come at the end."""
-        name, result, _ = case
-        is_fine = isinstance(result, Accepted) and not result.remarks
-        if is_fine and (self.words.quiet or self.words.staged is not None):
+        if not it.error and not it.remarks and (self.words.quiet or self.words.staged is not None):
             return
         if self.words.format == "json":
-            self.console.print(as_json(record_of(name, result)))
+            self.console.print(it.as_json())
         elif self.words.format == "github":
-            self.console.print(annotation_of(name, result))
-        elif self.words.format == "text" and (isinstance(result, Accepted) or self.words.staged is None):
-            self.console.print(line_of(name, result))
+            self.console.print(annotation_of(it))
+        elif not it.error or self.words.staged is None:
+            self.console.print(line_of(it))
 
-    def print_end(self, cases: Sequence[Case]) -> None:
+    def print_end(self) -> None:
         """Prints the refused and failed files again, with the causes, on standard error."""
         if self.words.format != "text" or self.words.quiet:
             return
-        for name, result, _ in cases:
-            causes = "".join(f"    {it}\n" for it in cause_of(result))
+        for it in self.records:
+            causes = "".join(f"    {line}\n" for line in cause_of(it))
             # A line that is the only one and has no cause would say the same once more.
-            if isinstance(result, DnormError) and (causes or len(cases) > 1 or self.words.staged is not None):
-                self.console.complain(line_of(name, result) + causes)
+            if it.error and (causes or len(self.records) > 1 or self.words.staged is not None):
+                self.console.complain(line_of(it) + causes)
 
     def manifest(self) -> None:
         """Prints the canonical checksum of each file, or writes them into a file. If that is one with the marks of
         files, those that have not changed are not read."""
-        words = self.words
+        words, reading, target = self.words, self.reading(), None
         output = words.output if words.incremental is None else words.incremental
-        known = self.known()
+        # There may be no such file yet.
+        is_renewed = words.incremental is not None and os.path.lexists(words.incremental)
+        known = self.listed(words.incremental, is_empty=True) if is_renewed else {}
         entries: list[Entry] = []
 
-        def task(name: str) -> Entry:
-            return entry_of(name, words.form, lambda: self.checksum(name, words.form), known.get(name))
+        def task(name: str) -> tuple[Record, Mark | None]:
+            return renewed(name, words.form, reading.record, known.get(name))
 
-        def take(name: str, result: Entry | DnormError, _: float) -> None:
-            self.count(result)
-            if isinstance(result, DnormError):
-                self.tell(name, result)
-                return
-            entries.append(result)
-            if words.json:
-                found = {"checksum": result.checksum, "form": result.form}
-                self.console.print(as_json({"name": name, "status": "listed", **found}))
+        def take(it: Record, mark: Mark | None) -> None:
+            if it.checksum:
+                entries.append(Entry(it.name, it.checksum, words.form, mark))
+            if it.error or self.is_json:
+                self.tell(it)
 
         with contextlib.suppress(Incomplete), contextlib.ExitStack() as stack:
             target = stack.enter_context(sink_of(output)) if output else None
-            self.each_file(self.found(), task, take)
-            text = text_of(entries, words.form, has_marks=words.incremental is not None)
-            if target and self.failed:
+            found = self.found()
+            self.each(found, task, take, [*in_order_of_names(found.files)])
+            if target and any(it.status == "failed" for it in self.records):
                 self.console.complain(line_with(output, after=": not written, since it would lack what failed"))
                 raise Incomplete
+            text = text_of_manifest(entries, words.form, has_marks=words.incremental is not None)
             if target:
                 target.take(os.fsencode(text))
-            elif not words.json:
+            elif not self.is_json:
                 self.console.print(text)
-        unchanged = sum(it is known.get(it.name) for it in entries)
-        self.sum_up(f"{self.done - unchanged} listed" + (f", {unchanged} unchanged" if unchanged else ""))
-
-    def known(self) -> dict[str, Entry]:
-        """Returns the entries of the manifest that is to be renewed, or none if there is no such file yet."""
-        name = self.words.incremental
-        return {} if name is None or not os.path.lexists(name) else self.listed(name, is_empty=True)
-
-    def checksum(self, name: str, form: Form) -> str:
-        """Returns the canonical checksum of a file."""
-        words = self.words
-        if not self.library:
-            return checksum(name, form, program=words.program, timeout=words.timeout)
-        limit = Limit(words.timeout, name)
-        with contextlib.ExitStack() as stack:
-            found = stack.enter_context(held(self.library, Text(name, stack, limit))).checksum(form)
-        return found
+        unchanged = sum(it.status == "unchanged" for it in self.records)
+        self.sum_up({"listed": len(entries) - unchanged, "unchanged": unchanged})
 
     def verify(self) -> None:
         """Compares the canonical checksums of a manifest with those of the files, and prints a line for each. Names
         files that the paths name and the manifest does not."""
-        entries = [*self.listed(self.words.verify).values()]
+        entries = self.listed(self.words.verify)
+        form = next(it.form for it in entries.values())
+        reading = Reading(self.words.program, self.library, form, tells="checksum", timeout=self.words.timeout)
         counts: Counter[str] = Counter()
 
-        def take(entry: Entry, result: str | DnormError, _: float) -> None:
-            if isinstance(result, DnormError):
-                is_gone = isinstance(result, Read) and not os.path.lexists(entry.name)
-                status = "gone" if is_gone else ""
+        def take(it: Record) -> None:
+            if isinstance(it.error, Read) and not os.path.lexists(it.name):
+                self.records.pop()
+                status = "gone"
             else:
-                status = "same" if result == entry.checksum else "differs"
+                status = "" if it.error else "same" if it.checksum == entries[it.name].checksum else "different"
             counts[status] += 1
-            if status != "gone":
-                self.count(result)
-            self.say(entry.name, status or result, {"checksum": entry.checksum, "form": entry.form})
+            self.say(it, status, {"checksum": entries[it.name].checksum, "form": form})
 
-        def task(entry: Entry) -> str | DnormError:
-            return outcome(lambda: self.checksum(entry.name, entry.form), entry.name)
-
-        self.each(task, entries, take)
-        known = {os.path.abspath(it.name) for it in entries}
+        named = Found(dict.fromkeys(entries), {})
+        self.each(named, lambda it: (reading.record(it), None), lambda it, _: take(it), [*entries])
+        known = {os.path.abspath(it) for it in entries}
         for name, error in self.found().files.items():
             if not error and not os.path.lexists(name):
                 error = Read(name, os.strerror(errno.ENOENT))
             if error:
-                self.count(error)
-                self.say(name, error, {})
+                self.records.append(Record(name, error=error))
+                self.say(self.records[-1], "", {})
             elif os.path.abspath(name) not in known:
-                counts["not listed"] += 1
-                self.say(name, "not listed", {})
-        more = [f"{counts[it]} {it}" for it in ["gone", "not listed"] if counts[it]]
-        self.sum_up(f"{counts['same']} the same, {counts['differs']} different", *more)
+                counts["not_listed"] += 1
+                self.say(Record(name), "not listed", {})
+        first, more = ({it: counts[it] for it in names} for names in (("same", "different"), ("gone", "not_listed")))
+        self.sum_up(first, more)
 
-    def say(self, name: str, found: object, more: dict[str, object]) -> None:
+    def say(self, it: Record, status: str, more: dict[str, object]) -> None:
         """Prints what verifying a file leads to: the same, another difference, or an error."""
-        if found != "same" and not isinstance(found, DnormError):
-            self.status = max(self.status, DIFFERS)
-        if isinstance(found, DnormError):
-            self.console.print(as_json(record_of(name, found)) if self.words.json else line_of(name, found))
-        elif self.words.json:
-            self.console.print(as_json({"name": name, "status": found, **more}))
-        elif found != "same" or not self.words.quiet:
-            self.console.print(line_with(name, after=f": {found}"))
+        if status in ("gone", "different", "not listed"):
+            self.own = DIFFERS
+        told = "differs" if status == "different" else status
+        if self.is_json:
+            self.console.print(json.dumps({"name": it.name, "status": told, **more}) + "\n" if told else it.as_json())
+        elif it.error and not told:
+            self.console.print(line_of(it))
+        elif told != "same" or not self.words.quiet:
+            self.console.print(line_with(it.name, after=f": {told}"))
 
     def listed(self, name: str, is_empty: bool = False) -> dict[str, Entry]:
         """Returns the entries of a manifest by their names, and tells what is odd about it. It may be empty or not, and
         like a text, it may be compressed."""
-        with failing(Read, name), contextlib.ExitStack() as stack:
-            text = Text(name, stack, Limit(None, name))
-            found, has_form = entries_of(os.fsdecode(b"".join(iter(text.next_piece, None))))
+        found, has_form = manifest_in(name)
         if not found and not is_empty:
             raise Read(name, "it lists no file")
         if found and not has_form:
@@ -246,50 +233,54 @@ class Run:
     def same(self) -> None:
         """Prints groups of files that pose the same problem. A link to a file of a group is none of them."""
         groups: dict[str, dict[tuple[int, int], str]] = {}
-        links = 0
+        links, reading = 0, self.reading()
 
-        def take(name: str, result: tuple[str, tuple[int, int]] | DnormError, _: float) -> None:
+        def task(name: str) -> tuple[Record, Mark | None]:
+            record = reading.record(name)
+            try:
+                return record, None if record.error else mark_of(name)
+            except OSError as error:
+                # It has gone meanwhile.
+                return Record(name, error=Read(name, reason_of(error))), None
+
+        def take(it: Record, mark: Mark | None) -> None:
             nonlocal links
-            self.count(result)
-            if isinstance(result, DnormError):
-                self.console.complain(line_of(name, result))
+            if not it.checksum or not mark:
+                self.console.complain(line_of(it))
                 return
-            group, file = groups.setdefault(result[0], {}), result[1]
+            group, file = groups.setdefault(it.checksum, {}), (mark.device, mark.number)
             links += file in group
             # A file itself comes before its links.
-            if file not in group or os.path.islink(group[file]) and not os.path.islink(name):
-                group[file] = name
+            if file not in group or os.path.islink(group[file]) and not os.path.islink(it.name):
+                group[file] = it.name
 
-        def task(name: str) -> tuple[str, tuple[int, int]]:
-            found, mark = self.checksum(name, 1), mark_of(name)
-            return found, (mark.device, mark.number)
-
-        self.each_file(self.found(), task, take)
-        found = [(sum_, sorted(it.values(), key=os.fsencode)) for sum_, it in groups.items() if len(it) > 1]
-        if self.words.json:
-            self.console.print("".join(as_json({"checksum": sum_, "names": names}) for sum_, names in found))
+        found = self.found()
+        self.each(found, task, take, [*in_order_of_names(found.files)])
+        same = [(sum_, sorted(it.values(), key=os.fsencode)) for sum_, it in groups.items() if len(it) > 1]
+        if self.is_json:
+            lines = (json.dumps({"checksum": sum_, "names": names}) + "\n" for sum_, names in same)
+            self.console.print("".join(lines))
         else:
-            self.console.print("\n".join("".join(map(line_with, names)) for _, names in found))
-        self.sum_up(f"{self.done} accepted", counted(len(found), "group", "groups"), counted(links, "link", "links"))
+            self.console.print("\n".join("".join(map(line_with, names)) for _, names in same))
+        self.sum_up({}, {"groups": len(same), "links": links})
 
     def list(self) -> None:
         """Prints what each file contains."""
         words, rows = self.words, 0
+        reading = Reading(words.program, self.library, words.form, tells="contents", timeout=words.timeout)
 
-        def task(name: str) -> Listed:
-            return listed(name, words.form, words.program, self.library, words.timeout)
-
-        def take(name: str, result: Listed | DnormError, _: float) -> None:
+        def take(it: Record) -> None:
             nonlocal rows
-            self.count(result)
-            if isinstance(result, DnormError):
-                self.tell(name, result)
-            else:
-                self.console.print(as_listed(result, words, not rows))
+            if it.error or self.is_json:
+                self.tell(it)
+            elif words.csv:
+                self.console.print(row_of(it, not rows))
                 rows += 1
+            else:
+                self.console.print(line_with(it.name, after=f": {it.kind}") + text_of(it))
 
-        self.each_file(self.found(), task, take)
-        self.sum_up(f"{self.done} listed")
+        self.read(self.found(), reading.record, take)
+        self.sum_up({})
 
     def compare(self) -> None:
         """Prints the first difference between two files, how many pairs differ, and the arcs of the first ones. A file
@@ -299,11 +290,30 @@ class Run:
             left, right = (stream if it == "-" else it for it in (words.left, words.right))
             found = differences(left, right, words.limit, program=words.program, timeout=words.timeout)
         if words.json:
-            self.console.print(as_json(record_of_differences(found)))
+            self.console.print(json.dumps(record_of_differences(found)) + "\n")
         elif not words.quiet:
             self.console.print("".join(f"{it}\n" for it in lines_of_differences(found)))
-        if not found.first:
-            self.status = DIFFERS
+        self.own = 0 if found.first else DIFFERS
+
+    def look(self) -> None:
+        """Prints a page of HTML: of where two files differ, or of what is in folders."""
+        words = self.words
+        if len(words.path) == 2:
+            left, right = words.path
+            compared = differences(left, right, 50, program=words.program, timeout=words.timeout)
+            self.console.print(page_of_pair(compared, left, right))
+            self.own = 0 if compared.first else DIFFERS
+            return
+        older = None if words.since is None else read_manifest(words.since)
+        form = older.form if older else words.form
+        found = find(words.path, words.ending, words.exclude)
+        self.others, self.excluded = len(found.others), found.excluded
+        reading = Reading(words.program, self.library, form, self.partners(found), timeout=words.timeout)
+        self.read(found, reading.record, lambda _: None)
+        collection = Collection(tuple(self.records), found.others, found.excluded, form)
+        changes = manifest_changes(older, collection.manifest) if older else None
+        self.console.print(page_of_folder(collection, words.path[0], self.status, changes))
+        self.sum_up_checks()
 
     def found(self) -> Found:
         """Returns the files that the paths of the command line name. If it is strict, the other files below them have
@@ -317,110 +327,72 @@ class Run:
         self.others += len(found.others)
         return found
 
-    def each_file(
-        self, found: Found, task: Callable[[str], Outcome], take: Callable[[str, Outcome | DnormError, float], None]
-    ) -> None:
-        """Runs a task on each file, and takes the results in the order of the names."""
-        files = in_order_of_names(found.files)
+    def read(self, found: Found, record: Callable[[str], Record], take: Callable[[Record], None]) -> None:
+        """Reads files, several at the same time, and takes their records in the order of the names."""
+        self.each(found, lambda it: (record(it), None), lambda it, _: take(it), [*in_order_of_names(found.files)])
 
-        def one(name: str) -> Outcome | DnormError:
-            error = files[name]
-            if error:
-                return error
-            return outcome(lambda: task(name), name)
+    def each(self, found: Found, task: Task, take: Callable[[Record, Mark | None], None], names: Sequence[str]) -> None:
+        """Runs a task on each file, but for those with errors, and takes the results in the order of these names."""
 
-        self.each(one, list(files), take)
-
-    def each(
-        self, task: Callable[[Item], Outcome], items: Sequence[Item], take: Callable[[Item, Outcome, float], None]
-    ) -> None:
-        """Runs a task on each item, and takes the results in their order, each with the seconds that it took."""
-
-        def timed(item: Item) -> tuple[Outcome, float]:
-            start = time.monotonic()
-            found = task(item)
+        def one(name: str) -> tuple[Record, Mark | None]:
+            error = found.files[name]
+            result = (Record(name, error=error), None) if error else task(name)
             self.console.step()
-            return found, time.monotonic() - start
+            return result
 
-        self.console.expect(len(items), self.sizes(items))
-        workers = Workers(timed, items, self.words.jobs)
-        self.ended = 0
+        def taken(result: tuple[Record, Mark | None]) -> None:
+            self.records.append(result[0])
+            take(*result)
+
+        self.console.expect(len(names), self.sizes(names))
+        workers, ended = Workers(one, names, self.words.jobs), 0
         try:
-            for at, item in enumerate(items):
-                result, seconds = workers.result(at, self.console.draw)
-                self.ended += 1
-                take(item, result, seconds)
-                if self.is_enough():
-                    self.unfinished = f"{self.ended} of {len(items)} done"
+            for at in range(len(names)):
+                result = workers.result(at, self.console.draw)
+                ended += 1
+                taken(result)
+                if getattr(self.words, "exit_first", False) and result[0].error:
+                    self.unfinished = f"{ended} of {len(names)} done"
                     workers.stop()
                     break
         except BaseException:
             rest = workers.stop()
 
             def take_rest() -> None:
-                for at, (result, seconds) in rest:
-                    take(items[at], result, seconds)
-                self.unfinished = f"{self.ended + len(rest)} of {len(items)} done"
+                for _, it in rest:
+                    taken(it)
+                self.unfinished = f"{ended + len(rest)} of {len(names)} done"
 
             self.take_rest = take_rest
             raise
 
-    def is_enough(self) -> bool:
-        """Whether the first fault ends the run."""
-        return getattr(self.words, "exit_first", False) and bool(self.status)
-
-    def sizes(self, items: Sequence[object]) -> int:
+    def sizes(self, names: Sequence[str]) -> int:
         """Returns the sum of the sizes of files, for the progress on a terminal."""
-        if not self.console.is_terminal:
-            return 0
-        names = [it.name if isinstance(it, Entry) else str(it) for it in items]
-        return sum(os.path.getsize(it) for it in names if os.path.isfile(it))
+        return sum(os.path.getsize(it) for it in names if os.path.isfile(it)) if self.console.is_terminal else 0
 
     def stop(self) -> None:
         """Prints what is known of a run that a signal ends."""
         self.take_rest()
         if self.unfinished:
             self.print_rest()
-            self.sum_up(f"{self.done} {DONE[self.words.task]}")
+            self.sum_up({})
 
-    def tell(self, name: str, error: DnormError) -> None:
-        """Prints the error of a file: as a JSON object, or on standard error."""
-        if self.words.json:
-            self.console.print(as_json(record_of(name, error)))
+    def tell(self, it: Record) -> None:
+        """Prints a record as a JSON object, or an error on standard error."""
+        if self.is_json:
+            self.console.print(it.as_json())
         else:
-            self.console.complain(line_of(name, error))
+            self.console.complain(line_of(it))
 
-    def count(self, result: object) -> None:
-        """Counts the result of a file."""
-        if isinstance(result, Refused):
-            self.refused += 1
-            self.status = max(self.status, REFUSED)
-        elif isinstance(result, DnormError):
-            self.failed += 1
-            self.status = max(self.status, FAILED)
-        else:
-            self.done += 1
-
-    def sum_up(self, done: str, *more: str) -> None:
-        """Prints what was counted."""
-        others = [counted(self.others, "other file", "other files"), counted(self.excluded, "excluded", "excluded")]
-        parts = [done, f"{self.refused} refused", f"{self.failed} failed", *more, *others, self.unfinished]
-        self.console.complain(", ".join(it for it in parts if it) + "\n")
-
-
-def accepted(cases: Sequence[Case]) -> list[Accepted]:
-    return [it.result for it in cases if isinstance(it.result, Accepted)]
-
-
-def counted(count: int, one: str, many: str) -> str:
-    """Returns a number of things in words, or nothing if there are none."""
-    return f"{count} {one if count == 1 else many}" if count else ""
-
-
-def as_listed(it: Listed, words: Namespace, is_first: bool) -> str:
-    """Returns what `list` prints for a file."""
-    if words.json:
-        return as_json(record_of_listed(it))
-    if words.csv:
-        return row_of(it, is_first)
-    return line_with(it.name, after=f": {it.kind}") + text_of_listed(it)
+    def sum_up(self, first: dict[str, int], more: dict[str, int] | None = None) -> None:
+        """Prints what was counted, before and after the refused and failed files: as a last JSON object, too."""
+        found, done = counts_of(self.records), DONE[self.words.task]
+        counts = first or {done: found["accepted"]}
+        counts |= {it: found[it] for it in ("refused", "failed")}
+        counts |= {**(more or {}), "other_files": self.others, "excluded": self.excluded}
+        if self.is_json:
+            ended = {"status": self.status, "form": self.words.form, "unfinished": self.unfinished or None}
+            self.console.print(json.dumps({"summary": {**counts, **ended}}) + "\n")
+        told = [f"{n} {TOLD.get(it, (it,) * 2)[n != 1]}" for it, n in counts.items() if n or it in ALWAYS]
+        told += [self.unfinished] if self.unfinished else []
+        self.console.complain(", ".join(told).replace("_", " ") + "\n")

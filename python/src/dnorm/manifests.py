@@ -3,18 +3,21 @@ of them need not be read again."""
 
 from __future__ import annotations
 
+import contextlib
 import hashlib
 import os
 import re
 import time
 from collections.abc import Callable, Iterable
+from dataclasses import dataclass
 from typing import NamedTuple, Optional
 
-from ..answers import Form
-from ..errors import Read
-from ..files import failing
-from ..names import KINDS
-from .reports import line_with, name_in
+from .answers import Form, table
+from .errors import Read
+from .files import File, Text, failing, name_of, reason_of
+from .limits import Limit
+from .names import KINDS
+from .records import Record
 
 # The line that says the form of the checksums, and how many files the manifest lists. Earlier versions wrote no number,
 # and for form 1 no line.
@@ -24,6 +27,8 @@ EARLIER = re.compile(rf"# file -?[0-9]+ -?[0-9]+ ({'|'.join(dict.fromkeys(KINDS.
 ENTRY = re.compile(r"(\\?)([0-9a-f]{64})  (.+)", re.S)
 # What follows the name of a file, behind a tab: its mark, and a sum of the line up to there.
 MARKED = re.compile(r"(.*)\t# ((?:-?[0-9]+ ){5})([0-9a-f]{16})", re.S)
+# How names are written that lines cannot have.
+ESCAPES = {"\\": r"\\", "\n": r"\n", "\r": r"\r", "\t": r"\t"}
 # A file that was written so few nanoseconds before may be written again without another time.
 FRESH = 2_000_000_000
 
@@ -55,19 +60,41 @@ def mark_of(name: str) -> Mark:
     return Mark(it.st_size, it.st_mtime_ns, it.st_ctime_ns, it.st_ino, it.st_dev)
 
 
-def entry_of(name: str, form: Form, sum_up: Callable[[], str], known: Entry | None) -> Entry:
-    """Returns the entry of a file: the one that is known, if the file has its mark and this form, or else one with the
-    checksum that `sum_up` returns, and with a mark if the file was not written meanwhile, or just before."""
-    with failing(Read, name):
+def renewed(name: str, form: Form, read: Callable[[str], Record], known: Entry | None) -> tuple[Record, Mark | None]:
+    """Returns the record of a file, which `read` reads unless the known entry has its mark and this form; and its mark,
+    if the file was not written meanwhile, or just before."""
+    try:
         before = mark_of(name)
+    except OSError as error:
+        return Record(name, error=Read(name, reason_of(error))), None
     if known and (known.mark, known.form) == (before, form):
-        return known
-    checksum = sum_up()
-    with failing(Read, name):
-        is_sure = mark_of(name) == before
+        return Record(name, checksum=known.checksum), before
+    record, after = read(name), None
+    with contextlib.suppress(OSError):
+        after = mark_of(name)
     # A time before 1970 or after now is none at which the file was written.
-    is_sure &= 0 <= min(before.written, before.changed) and max(before[1:3]) < time.time_ns() - FRESH
-    return Entry(name, checksum, form, before if is_sure else None)
+    is_sure = 0 <= min(before.written, before.changed) and max(before[1:3]) < time.time_ns() - FRESH
+    return record, before if is_sure and after == before else None
+
+
+def line_with(name: str, before: str = "", after: str = "", more: str = "", *, has_tabs: bool = True) -> str:
+    """Returns a line with the name of a file, and at its end with more that has names. As in a line of sha256sum, a
+    backslash, LF or CR in a name is written as two characters, and a backslash begins the line then; so is a tab, if
+    the line is to have none."""
+    table = str.maketrans({it: to for it, to in ESCAPES.items() if it != "\t" or not has_tabs})
+    plain, others = name.translate(table), more.translate(table)
+    return ("\\" if (plain, others) != (name, more) else "") + before + plain + after + others + "\n"
+
+
+def name_in(mark: str, plain: str) -> str | None:
+    """Returns the name that `line_with` has written into a line, or None if it writes no name so. `mark` is the
+    backslash that begins the line, if one does."""
+    if not mark:
+        return plain
+    if not re.fullmatch(r"(?:[^\\]|\\[\\nrt])*", plain):
+        return None
+    meant = {written: it for it, written in ESCAPES.items()}
+    return re.sub(r"\\.", lambda it: meant[it[0]], plain)
 
 
 def sum_of(form: int, line: str) -> str:
@@ -135,3 +162,71 @@ def entry_on(line: str, at: int, form: Form, is_ours: bool) -> Entry:
     if marked and not (is_ours and sum_of(form, line[: -len(marked[3])]) == marked[3]):
         raise ValueError(f"line {at} is not as it was written; without what follows its tab, the file is read")
     return Entry(name, entry[2], form, Mark(*map(int, marked[2].split())) if marked else None)
+
+
+@dataclass(frozen=True, repr=False)
+class Manifest:
+    """The canonical checksums of files, by their names; `min` texts are in this form."""
+
+    form: Form
+    checksums: dict[str, str]
+
+    def __repr__(self) -> str:
+        return f"<dnorm.Manifest: form {self.form}, {len(self.checksums)} files>"
+
+    def _repr_html_(self) -> str:
+        """Returns what a notebook shows: the first files as a table."""
+        return table(self, ("name", "checksum"), self.checksums.items())
+
+
+@dataclass(frozen=True, repr=False)
+class Changes:
+    """How a manifest differs from an older one: the names that are `new`, `gone`, or `changed`, with another checksum;
+    and the `renamed` files, each with its old and its new name, whose checksum is the same."""
+
+    new: tuple[str, ...]
+    gone: tuple[str, ...]
+    changed: tuple[str, ...]
+    renamed: tuple[tuple[str, str], ...]
+
+    def __repr__(self) -> str:
+        return f"<dnorm.Changes: {', '.join(f'{len(names)} {it}' for it, names in vars(self).items())}>"
+
+    def _repr_html_(self) -> str:
+        """Returns what a notebook shows: the first changes as a table."""
+        rows = [(it, name) for it, names in vars(self).items() for name in names]
+        return table(self, ("change", "file"), rows)
+
+
+def read_manifest(file: File) -> Manifest:
+    """Reads a manifest that `dnorm-files manifest` has written, which may be compressed. Raises `Read` for a text that
+    is none, as one that is cut."""
+    entries, has_form = manifest_in(file)
+    if not entries and not has_form:
+        raise Read(name_of(file), "it lists no file")
+    form: Form = next((it.form for it in entries.values()), 1)
+    return Manifest(form, {name: it.checksum for name, it in entries.items()})
+
+
+def manifest_in(file: File) -> tuple[dict[str, Entry], bool]:
+    """Returns the entries of a manifest, and whether it says its form."""
+    with failing(Read, name_of(file)), contextlib.ExitStack() as stack:
+        text = Text(file, stack, Limit(None, name_of(file)))
+        found = entries_of(os.fsdecode(b"".join(iter(text.next_piece, None))))
+    return found
+
+
+def manifest_changes(old: Manifest, new: Manifest) -> Changes:
+    """Returns how a manifest differs from an older one of the same form. Names are compared as they are."""
+    if old.form != new.form:
+        raise ValueError(f"the manifests are of form {old.form} and of form {new.form}")
+    gone = [it for it in old.checksums if it not in new.checksums]
+    added = [it for it in new.checksums if it not in old.checksums]
+    changed = [it for it, checksum in new.checksums.items() if old.checksums.get(it, checksum) != checksum]
+    places: dict[str, list[str]] = {}
+    for it in reversed(added):
+        places.setdefault(new.checksums[it], []).append(it)
+    renamed = [(it, places[old.checksums[it]].pop()) for it in gone if places.get(old.checksums[it])]
+    moved = {name for pair in renamed for name in pair}
+    added, gone = ([it for it in names if it not in moved] for names in (added, gone))
+    return Changes(tuple(added), tuple(gone), tuple(changed), tuple(renamed))

@@ -1,28 +1,28 @@
-"""The files of folders, and tasks that run at the same time, one for each file."""
+"""The texts of folders, and a check of all of them."""
 
 from __future__ import annotations
 
 import os
-import threading
-from collections.abc import Callable, Iterable, Sequence
+from collections.abc import Iterable, Sequence
+from concurrent.futures import ThreadPoolExecutor
+from dataclasses import dataclass
 from fnmatch import fnmatchcase
-from queue import Empty, SimpleQueue
-from typing import Generic, NamedTuple, TypeVar
+from typing import NamedTuple, Optional, TypeVar, Union
 
-from ..console import heeding_signals
-from ..errors import DnormError, Memory, Read
-from ..files import reason_of
-from ..names import is_text, misnamed_text
-from ..program import children
+from .answers import Form, table
+from .calls import check_form
+from .errors import DnormError, Read
+from .files import reason_of
+from .library import library_of
+from .limits import check_seconds
+from .manifests import Manifest
+from .names import ENDINGS, is_text, misnamed_text
+from .program import Program, processors
+from .records import Partners, Reading, Record, counts_of
 
 # What version control keeps for itself: branches can have names like texts. CVS has a list in each of its folders.
 HIDDEN, CVS, CVS_LIST = {".git", ".hg", ".svn", ".bzr", ".jj", "_darcs"}, "CVS", "Entries"
 
-# How many tasks begin before the result of the first one is taken, and the longest wait, in seconds: a signal that
-# comes just before a wait does not end it.
-AHEAD, PAUSE = 1000, 0.1
-
-Item = TypeVar("Item")
 Result = TypeVar("Result")
 
 
@@ -107,77 +107,54 @@ class Search:
         return not is_excluded
 
 
-def outcome(task: Callable[[], Result], name: str) -> Result | DnormError:
-    """Returns the result of a task on the file of this name, or the error that it raises."""
-    try:
-        return task()
-    except DnormError as error:
-        return error
-    except MemoryError:
-        return Memory(name)
-    except OSError as error:
-        # A limit of the system, as that of open files.
-        return Read(name, reason_of(error))
+@dataclass(frozen=True, repr=False)
+class Collection:
+    """What `check_folder` found: the `records` of the texts, in the order of their names; the `others`, files that it
+    did not look at, with the reasons; and how many were `excluded`. The checksums are of this `form`."""
+
+    records: tuple[Record, ...]
+    others: dict[str, str]
+    excluded: int
+    form: Form
+
+    @property
+    def counts(self) -> dict[str, int]:
+        """How many files are accepted, refused and failed; have each sort of remark; are others, and are excluded."""
+        return {**counts_of(self.records), "other_files": len(self.others), "excluded": self.excluded}
+
+    @property
+    def manifest(self) -> Manifest:
+        """The checksums of the accepted files by their names."""
+        return Manifest(self.form, {it.name: it.checksum for it in self.records if it.checksum})
+
+    def __repr__(self) -> str:
+        return f"<dnorm.Collection: {', '.join(f'{count} {it}' for it, count in self.counts.items() if count)}>"
+
+    def _repr_html_(self) -> str:
+        """Returns what a notebook shows: the first files that are not accepted as a table."""
+        faulty = ((it.name, it.what.lstrip(": "), it.hint or "") for it in self.records if it.error)
+        return table(self, ("name", "error", "hint"), faulty)
 
 
-class Workers(Generic[Item, Result]):
-    """Threads that run a task on each of these items, at most `jobs` of them. Nothing waits for their end, since a
-    thread may wait for a file without end. No task returns an exception."""
+def check_folder(
+    *paths: Union[str, os.PathLike[str]],
+    exclude: Sequence[str] = (),
+    form: Form = 1,
+    program: Program = None,
+    timeout: Optional[float] = None,
+) -> Collection:
+    """Checks the texts of folders, and that companions fit the graphs of their names, as `dnorm-files check
+    --companions` does. Reads each file once, as many at the same time as there are processors. Raises no error for a
+    file that is refused, cannot be read, or takes more than `timeout` seconds: its record has it."""
+    check_form(form)
+    if timeout is not None:
+        check_seconds(timeout)
+    found = find([os.fspath(it) for it in paths], ENDINGS, exclude)
+    reading = Reading(program, library_of(program), form, Partners(found.files), timeout=timeout)
 
-    def __init__(self, task: Callable[[Item], Result], items: Sequence[Item], jobs: int) -> None:
-        self._task, self._items, self._jobs = task, items, jobs
-        self._begun = self._threads = 0
-        self._is_stopped = False
-        self._wanted: SimpleQueue[int] = SimpleQueue()
-        self._came: SimpleQueue[tuple[int, Result | BaseException]] = SimpleQueue()
-        self._done: dict[int, Result | BaseException] = {}
+    def record(name: str) -> Record:
+        error = found.files[name]
+        return Record(name, error=error) if error else reading.record(name)
 
-    def _begin(self) -> None:
-        """Begins the next item: in another thread while there may be more of them. Where the system lets no more start,
-        those that there are do all."""
-        self._wanted.put(self._begun)
-        self._begun += 1
-        if self._threads < self._jobs:
-            try:
-                with heeding_signals():
-                    threading.Thread(target=self._work, daemon=True).start()
-                self._threads += 1
-            except (RuntimeError, MemoryError):
-                self._jobs = self._threads
-
-    def _work(self) -> None:
-        while not self._is_stopped:
-            self._do(self._wanted.get())
-
-    def _do(self, at: int) -> None:
-        try:
-            self._came.put((at, self._task(self._items[at])))
-        except BaseException as error:
-            self._came.put((at, error))
-
-    def result(self, at: int, idle: Callable[[], None] = lambda: None) -> Result:
-        """Returns the result of this item, or raises what its task has raised. Results are asked for in the order of
-        the items. `idle` is called again and again during a long wait."""
-        while self._begun < min(at + AHEAD, len(self._items)):
-            self._begin()
-        while at not in self._done:
-            if not self._threads:
-                self._do(self._wanted.get())
-            try:
-                place, found = self._came.get(timeout=PAUSE)
-                self._done[place] = found
-            except Empty:
-                idle()
-        found = self._done.pop(at)
-        if isinstance(found, BaseException):
-            raise found
-        return found
-
-    def stop(self) -> list[tuple[int, Result]]:
-        """Kills the processes that run, and lets no thread begin another item. Returns the results that were not taken,
-        with the places of their items."""
-        self._is_stopped = True
-        children.stop()
-        while not self._came.empty():
-            self._done.update([self._came.get()])
-        return [(at, it) for at, it in sorted(self._done.items()) if not isinstance(it, BaseException)]
+    with ThreadPoolExecutor(processors()) as pool:
+        return Collection(tuple(pool.map(record, found.files)), found.others, found.excluded, form)

@@ -1,0 +1,248 @@
+"""The pages of HTML that `dnorm-files look` prints. web/report.html has their style; web/look.js and web/report.js draw
+the pictures and the tables that need a script. The counts and the refusals are there without one."""
+
+from __future__ import annotations
+
+import html
+import json
+import os
+import re
+from collections import Counter
+from collections.abc import Iterable, Sequence
+from typing import Optional
+
+from ..answers import Difference
+from ..console import bytes_of
+from ..errors import NoProgram, Refused
+from ..folders import Collection
+from ..instances import Graph, Min
+from ..manifests import Changes
+from ..pairs import Arcs, PairDifference
+from ..program import WEB, placed
+from ..records import SIZES, Record
+from ..summary import Differences
+
+# How many corners of a curve, arcs of a pair, and pairs around a pair a page has; how many causes, and files of one;
+# and how many names in another list.
+CORNERS, ARCS, AROUND, CAUSES, FILES, LISTED = 5000, 10, 30, 100, 20, 300
+# What the first difference says.
+SAID = {
+    "kind": "They are of two kinds.", "nodes": "They differ in the number of nodes.",
+    "supply": "They differ in the flow of node {node}.", "source": "They differ in the source.",
+    "sink": "They differ in the sink.", "length": "The least lengths from {pair[0]} to {pair[1]} differ.",
+    "capacity": "The total capacities from {pair[0]} to {pair[1]} differ.",
+    "cost": "The least costs of {amount} units from {pair[0]} to {pair[1]} differ.",
+    "items": "They differ in the number of items.", "item": "They differ in item {place}.",
+    "point": "They differ in the point of node {node}.",
+}  # fmt: skip
+# The colours of kinds and of files that are not accepted, and what a file is since a manifest.
+COLOURS = {"sp": "one", "min": "two", "max": "three", "ss": "four", "p2p": "five", "co": "six"}
+COLOURS |= {"refused": "bad", "failed": "worst"}
+SINCE = ("", "new", "changed", "renamed")
+
+
+def page(title: str, is_good: bool, sentence: str, parts: Iterable[str], data: object) -> str:
+    """Returns a page in characters of ASCII, which are the same in each locale."""
+    made = {"TITLE": escaped(title), "DATA": json.dumps(data).replace("<", "\\u003c")}
+    head = f'<h1>{escaped(title)}</h1><p class="{"good" if is_good else "bad"} verdict">{escaped(sentence)}</p>'
+    made |= {"BODY": head + "".join(parts), "LOOK": shared("look.js"), "REPORT": shared("report.js")}
+    text = re.sub("@(TITLE|BODY|LOOK|REPORT|DATA)@", lambda it: made[it[1]], shared("report.html"))
+    return text.encode("ascii", "xmlcharrefreplace").decode()
+
+
+def shared(name: str) -> str:
+    """Returns a file that pages have."""
+    path = placed(name, WEB)
+    if not path:
+        raise NoProgram(name, "this copy of the package lacks it: wheels, archives and ./install bring it")
+    with open(path, encoding="utf-8") as file:
+        return file.read()
+
+
+def shown(text: str) -> str:
+    """Returns a text in which each character that cannot be printed is written as \\xNN, as a byte of it."""
+    return "".join(it if it.isprintable() else bytes_of(it) for it in text)
+
+
+def escaped(text: object) -> str:
+    return html.escape(shown(str(text)))
+
+
+def bar(parts: Iterable[tuple[str, int, str]]) -> str:
+    """Returns counts as a bar, with a list of them below."""
+    told = [(f"{name} {count}", count, f"background: var(--{colour})") for name, count, colour in parts if count]
+    pieces = "".join(f'<span style="flex: {n} 0 0; {style}"></span>' for _, n, style in told)
+    keys = "".join(f'<li><i style="{style}"></i>{escaped(it)}</li>' for it, _, style in told)
+    return f'<div class="bar" aria-hidden="true">{pieces}</div><ul class="keys">{keys}</ul>'
+
+
+def section(title: str, *parts: str) -> str:
+    return f"<section><h2>{escaped(title)}</h2>{''.join(parts) or '<p>None.</p>'}</section>"
+
+
+def table(heads: Sequence[str], cells: Iterable[Sequence[str]]) -> str:
+    """Returns a table of cells, which are HTML."""
+    lines = "".join("<tr>" + "".join(f"<td>{it}" for it in row) for row in cells)
+    return f"<div class=wide><table><tr>{''.join(f'<th scope=col>{it}' for it in heads)}{lines}</table></div>"
+
+
+def folded(title: str, names: Sequence[str], most: int = LISTED) -> str:
+    """Returns a list of names that is folded, with at most so many of them."""
+    more = f"<li>and {len(names) - most} more" if len(names) > most else ""
+    items = "".join(f"<li>{escaped(it)}" for it in names[:most])
+    told = f"<details><summary>{escaped(title)}: {len(names)}</summary><ul>{items}{more}</ul></details>"
+    return told if names else ""
+
+
+def page_of_pair(found: Differences, left: str, right: str) -> str:
+    """Returns the page of where two files differ."""
+    first, names = (
+        found.first,
+        f"<p><b class=left>Left</b> {escaped(left)}<br><b class=right>Right</b> {escaped(right)}",
+    )
+    if not isinstance(first, Difference):
+        return page("Two files of one problem", True, "Both files pose the same problem.", [names], {})
+    title, sentence, data = "Where two files differ", SAID[first.what].format(**vars(first)), {}
+    parts = [names, f"<p><code>{escaped(first)}</code></p>"]
+    if found.kind:
+        counts = [("only left", found.only_left, "left"), ("different", found.different, "bad")]
+        counts += [("equal", found.both - found.different, "soft"), ("only right", found.only_right, "right")]
+        parts.append(section("Pairs" if isinstance(found.left, Graph) else "Items or points", bar(counts)))
+        parts.append(section("Remarks", *(f"<p>{escaped(it)}</p>" for it in remarks_of(found))))
+        pair = next((it for it in found.around(first.pair[0]) if it.key == first.pair), None) if first.pair else None
+        pair = pair or (found.pairs[0] if found.pairs else None)
+        if pair and first.what == "cost":
+            data["cost"] = costs_of(first, pair)
+            parts.append(section("Costs of the pair", "<div id=costs></div>"))
+        if pair and isinstance(found.left, Graph):
+            data["around"] = around(found, pair)
+            parts.append(section("Arcs around the pair", "<div id=around></div>"))
+        cells = ([f"{it.key}".strip("(,)"), arcs(it.left, "<br>"), arcs(it.right, "<br>")] for it in found.pairs)
+        shown_pairs = table(["Pair", "Left", "Right"], cells) if found.pairs else ""
+        parts.append(section(f"The first {len(found.pairs)} that differ", shown_pairs))
+    return page(title, False, sentence, parts, data)
+
+
+def arcs(found: Arcs, between: str) -> str:
+    """Returns the arcs of a pair in words."""
+    told = between.join(" ".join(map(str, it)) for it in found[:ARCS]) or "none"
+    return f"{told}{between}and {len(found) - ARCS} more" if len(found) > ARCS else told
+
+
+def costs_of(first: Difference, pair: PairDifference) -> dict[str, object]:
+    """Returns the difference and the curves as web/look.js takes them, with numbers as texts."""
+    numbers = {"at": pair.key[0], "to": pair.key[1], "amount": first.amount, "left": first.left, "right": first.right}
+    curves = [[[str(n) for n in corner] for corner in curve[:CORNERS]] for curve in pair.curves()]
+    cut = CORNERS if any(len(it) > CORNERS for it in pair.curves()) else 0
+    return {**{it: None if n is None else str(n) for it, n in numbers.items()}, "curves": curves, "cut": cut}
+
+
+def remarks_of(found: Differences) -> list[str]:
+    """Returns the values besides pairs that differ, and what is alike although it differs."""
+    made = [f"{name}: {left} left, {right} right" for name, left, right in found.values]
+    if found.reversed:
+        example = "to".join(f" {it} " for it in found.reversed[0])
+        made.append(f"Reversed pairs: {len(found.reversed)}, as from{example}, whose arcs the right file has backwards")
+    if isinstance(found.left, Min) and isinstance(found.right, Min) and found.supplies:
+        flows = found.right.supplies
+        turned = [node for node, flow in found.left.supplies.items() if flows.get(node) == -flow]
+        made.append(f"Nodes with other flows: {found.supplies}")
+        made += [f"Of these, with the other sign: {len(turned)}, as node {turned[0]}"] if turned else []
+    return made
+
+
+def around(found: Differences, pair: PairDifference) -> dict[str, object]:
+    """Returns the pairs around a pair: this one, then those that differ, and then the others."""
+    near = {it.key: it for node in pair.key for it in found.around(node)}.values()
+    ranked = sorted(near, key=lambda it: (it.key != pair.key, it.left == it.right, it.key))
+    drawn = []
+    for it in ranked[:AROUND]:
+        side = "right" if not it.left else "left" if not it.right else "same" if it.left == it.right else "differs"
+        drawn.append([*map(str, it.key), side, arcs(it.left, ", "), arcs(it.right, ", ")])
+    return {"pair": [*map(str, pair.key)], "arcs": drawn, "more": max(0, len(ranked) - AROUND)}
+
+
+def page_of_folder(it: Collection, folder: str, status: int, changes: Optional[Changes]) -> str:
+    """Returns the page of what is in a folder, and what has changed there since a manifest."""
+    told = [f"{n} {name.replace('_', ' ')}" for name, n in it.counts.items() if n or name in ("accepted", *COLOURS)]
+    kinds, groups = Counter(one.kind or one.status for one in it.records), groups_of(it.records)
+    parts = [section("Kinds", bar((name, kinds[name], colour) for name, colour in COLOURS.items()))]
+    if changes:
+        renamed = [f"{old} is now {new}" for old, new in changes.renamed]
+        lists = {"changed": changes.changed, "renamed": renamed, "new": changes.new, "gone": changes.gone}
+        same = sum(map(bool, it.manifest.checksums)) - sum(len(lists[name]) for name in ("changed", "renamed", "new"))
+        colours = {"changed": "two", "renamed": "one", "new": "three", "gone": "bad"}
+        counts = [("the same", same, "soft"), *((name, len(names), colours[name]) for name, names in lists.items())]
+        told_lists = (folded(name, names) for name, names in lists.items())
+        parts.append(section("Since the manifest, of accepted files", bar(counts), *told_lists))
+    parts += [section("Sizes", "<div id=sizes></div>"), section("Refused and failed files", *refusals(it.records))]
+    parts.append(
+        section(f"Groups of files of one problem: {len(groups)}", *(folded(one[0], one, FILES) for one in groups[:50]))
+    )
+    noted: dict[str, list[str]] = {}
+    for name, remark in ((one.name, remark.partition(":")[0]) for one in it.records for remark in one.remarks):
+        noted.setdefault(remark, []).append(name)
+    parts.append(section("Remarks", *(folded(remark, names, FILES) for remark, names in noted.items())))
+    parts.append(section("Files", "<div id=files></div>"))
+    is_good = status == 0 and it.counts["accepted"] > 0
+    sentence = f"{', '.join(told)}; status {status}"
+    return page(f"Collection {folder}", is_good, sentence, parts, table_of(it, groups, changes))
+
+
+def cause_of(it: Record) -> str:
+    """Returns the cause of an error in few words, or nothing for an accepted file."""
+    return f"{it.error.number} {it.error.word}" if isinstance(it.error, Refused) else it.what.lstrip(": ")[:100]
+
+
+def refusals(records: Sequence[Record]) -> list[str]:
+    """Returns the refused and failed files by their causes, with lines and hints."""
+    causes: dict[str, list[Record]] = {}
+    for it in records:
+        if it.error:
+            causes.setdefault(cause_of(it), []).append(it)
+    made = []
+    for cause, found in sorted(causes.items(), key=lambda it: -len(it[1]))[:CAUSES]:
+        cells = []
+        for it in found[:FILES]:
+            line, text = (it.error.line, it.error.text) if isinstance(it.error, Refused) else (None, None)
+            place = f":{line}" if line else ""
+            cells.append(
+                [escaped(f"{it.name}{place}"), f"<code>{escaped((text or '')[:120])}</code>", escaped(it.hint or "")]
+            )
+        more = f"<p>And {len(found) - FILES} more, in the table of files.</p>" if len(found) > FILES else ""
+        summary = f"<summary>{escaped(cause)}: {len(found)}</summary>{table(['File', 'Line', 'Hint'], cells)}{more}"
+        made.append(f"<details{' open' * (len(causes) < 4)}>{summary}</details>")
+    return made + [f"<p>And {len(causes) - CAUSES} more causes.</p>"] * (len(causes) > CAUSES)
+
+
+def groups_of(records: Sequence[Record]) -> list[list[str]]:
+    """Returns the names of files that pose the same problem, in groups, the largest first. Links to a file are left
+    out."""
+    found: dict[str, dict[tuple[int, int], str]] = {}
+    for it in records:
+        if it.checksum and os.path.exists(it.name):
+            of = os.stat(it.name)
+            found.setdefault(it.checksum, {}).setdefault((of.st_dev, of.st_ino), it.name)
+    return sorted((list(it.values()) for it in found.values() if len(it) > 1), key=lambda it: -len(it))
+
+
+def table_of(it: Collection, groups: Sequence[Sequence[str]], changes: Optional[Changes]) -> dict[str, object]:
+    """Returns the data of the table of files, in columns: a text of all names by lines, and of all other cells by
+    blanks. Causes and remarks are numbers of a list."""
+    kinds, since = [*COLOURS], dict[str, int]()
+    places = {name: at for at, names in enumerate(groups, 1) for name in names}
+    if changes:
+        for at, changed in enumerate((changes.new, changes.changed, tuple(new for _, new in changes.renamed)), 1):
+            since.update(dict.fromkeys(changed, at))
+    notes = [cause_of(one) or "; ".join(remark.partition(":")[0] for remark in one.remarks) for one in it.records]
+    numbers = {note: at for at, note in enumerate(dict.fromkeys(notes))}
+    columns: dict[str, Iterable[Optional[int]]] = {"kind": (kinds.index(one.kind or one.status) for one in it.records)}
+    columns |= {"note": map(numbers.__getitem__, notes), "group": (places.get(one.name) for one in it.records)}
+    columns |= {size: [getattr(one, size) for one in it.records] for size in SIZES}
+    columns |= {"since": (since.get(one.name) for one in it.records)} if changes else {}
+    told: dict[str, object] = {
+        name: " ".join("" if n is None else str(n) for n in cells) for name, cells in columns.items()
+    }
+    told |= {"kinds": kinds, "colours": [*COLOURS.values()], "notes": [*map(shown, numbers)], "sinces": SINCE}
+    told["names"] = "\n".join(shown(one.name) for one in it.records)
+    return {"files": told}
