@@ -196,12 +196,14 @@ const SHOW = {
   },
 
   async canon({ index, form }) {
+    // It is gone from the page if other files are chosen before the checksum is known.
+    const place = element(`canon${index}`);
     const text = new Blob(parts.splice(0), { type: 'text/plain' });
     const ending = `.canonical${form === 2 ? '-2' : ''}$1`;
     const name = files[index].name.replace(/\.gz$/i, '').replace(/(\.\w+)?$/, ending);
     const save = make('a', { class: 'button first', href: URL.createObjectURL(text), download: name }, `Save ${name}`);
     const sum = make('code', {}, await checksum(text));
-    element(`canon${index}`).replaceChildren(list([['Size', size(text.size)], ['SHA-256', sum]]), save);
+    place.replaceChildren(list([['Size', size(text.size)], ['SHA-256', sum]]), save);
   },
 
   failed({ error: { number, refusal, sentence, message } }) {

@@ -35,6 +35,14 @@ CLICKS = """const [first, second] = [0, 1].map((it) => element(`canon${it}`).pre
 first.click();
 let count = 0;
 const clicking = setInterval(() => { second.click(); if (++count === 20) clearInterval(clicking); }, 2);"""
+# Asks for the canonical text of a file, whose checksum takes a while.
+SLOW = """const soon = checksum;
+checksum = async (text) => {
+  await new Promise((go) => setTimeout(go, 500));
+  setTimeout(() => { document.body.dataset.late = 'told'; }, 100);
+  return soon(text);
+};
+element('canon0').previousSibling.firstChild.click();"""
 FAR, MOST = 2**62, 2**63 - 1
 MIN = "p min 2 3\na 1 2 1 {} -{}\na 1 2 0 5 3\na 1 2 5 {} {}\n"
 # Files by their names, and what the page says of them.
@@ -178,6 +186,22 @@ def test_two_texts(page: Page, tested: str, folder: str) -> None:
         write("given", arcs[it][1])
         wanted = hashlib.sha256(run([tested, "canon", "given"]).out).hexdigest()
         page.until(f"return element('canon{it}').textContent.includes('{wanted}')")
+
+
+def test_late_checksum(page: Page) -> None:
+    """Another file is chosen while the checksum of a text is computed, and does not get it. By Firefox's protocol, a
+    test cannot change a function of the page."""
+    if not isinstance(page.browser, Chromium):
+        return
+    assert "accepted" in page.give([("roads.gr", ROADS.decode())])
+    page.browser.js(SLOW)
+    time.sleep(0.25)
+    assert "empty.gr is accepted" in page.give([("empty.gr", "p sp 0 0\n")])
+    page.until("return document.body.dataset.late")
+    assert not page.browser.js("return element('canon0').textContent")
+    page.browser.js("location.reload()")
+    page.until("return typeof element === 'function' && !document.body.dataset.late")
+    assert page.browser.complaints() == []
 
 
 def test_many_costs(page: Page) -> None:
