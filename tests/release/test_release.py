@@ -305,7 +305,8 @@ def test_python_wheel(made: Made, two: Place) -> None:
         infos = wheel.infolist()
         metadata = wheel.read(f"{made.wheel.removesuffix('-py3-none-any.whl')}.dist-info/METADATA").decode()
     names = [it.filename for it in infos]
-    modules = sorted([*MODULES, *SUITE, "dnorm/FILES.md"])
+    shown = ["FILES.md", "look.js", "report.html", "report.js"]
+    modules = sorted([*MODULES, *SUITE, *(f"dnorm/{it}" for it in shown)])
     assert sorted(it for it in names if it.startswith("dnorm/")) == modules, "the wheel's modules"
     assert {it.external_attr >> 16 & 0o777 for it in infos if it.filename in modules} == {0o644}, "its modes"
     assert {it.date_time for it in infos} == {time.gmtime(TIME - 1)[:6]}, "its times"
