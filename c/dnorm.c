@@ -171,7 +171,7 @@ static int read_text(const char *name, dnorm *text, bool is_kept) {
         if (some < 0 && errno == EINTR) continue;
         if (some > 0) status = dnorm_feed(text, bytes, (size_t)some);
         else if (some < 0) status.code = DNORM_READ;
-        if (status.code == DNORM_FINE && is_kept && !keep(bytes, (size_t)some)) status.code = DNORM_MEMORY;
+        if (status.code == DNORM_FINE && is_kept && some > 0 && !keep(bytes, (size_t)some)) status.code = DNORM_MEMORY;
         if (status.code == DNORM_FINE && ++reads >= DNORM_READS) status.code = DNORM_ENDLESS;
     }
     if (status.code == DNORM_FINE) status = dnorm_finish(text);

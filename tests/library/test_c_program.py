@@ -45,7 +45,7 @@ BUILDS: dict[str, tuple[list[str], list[str], int]] = {
 # Random texts, and their kinds.
 RANDOM, KINDS = 200, ["min", "max", "sp", "ss", "p2p", "co"]
 # Those on which the conformance suite runs, unless all is tested at length.
-SUITE = ["gcc -O2"]
+SUITE = ["gcc -O2", "sanitizers"]
 # The names that a symbol table exports, and sections of variables with their sizes, unless these are 0.
 EXPORTED = re.compile(r" [A-Z] (\w+)$", re.M)
 VARIABLES = re.compile(r"^ *\d+ (\.(?:data|bss)) +0*[1-9a-f]", re.M)
@@ -217,7 +217,7 @@ def test_as_program(at_length: str, name: str) -> None:
 
 
 def test_as_library(at_length: str, folder: str) -> None:
-    """The tests of the library, over both libraries of the C file."""
+    """The tests of the library, and those of the package for Python, over both libraries of the C file."""
     need("gcc", "ar")
     prefix, library = f"{folder}/prefix", c_file(folder)
     assert run([f"{ROOT}/tools/c-library", prefix], limit=None).status == 0
@@ -240,6 +240,7 @@ def test_as_library(at_length: str, folder: str) -> None:
     shutil.copy(shared, f"{prefix}/lib/libdnorm.so")
     others = [f"--ignore={HERE}/test_c_{it}.py" for it in ("file", "program")]
     passes(f"{ROOT}/dnorm", "library", *others, DNORM_TESTED_PREFIX=prefix)
+    passes(f"{ROOT}/dnorm", "python", DNORM_TESTED_PREFIX=prefix)
 
 
 def passes(program: str, name: str, *more: str, **own: str) -> None:
