@@ -9,13 +9,12 @@ from collections.abc import Iterator
 from typing import TextIO
 
 import pytest
-from needs import leave_out
+from needs import leave_out, need
 from shared import ENDING, ROOT, Quick, exit_by, program_at, run, said
 
 # The package for Python, and the cases of the conformance suite, which some tests import.
 sys.path[:0] = [f"{ROOT}/python/src", f"{ROOT}/tests/conformance"]
 PREFIX = f"{ROOT}/c/out"
-LIBRARY = f"{PREFIX}/lib/libdnorm.so.3"
 # The file that a test locks while it runs.
 LOCK = pytest.StashKey[TextIO]()
 
@@ -106,19 +105,28 @@ def heeded() -> Iterator[None]:
 
 @pytest.fixture
 def reader(
-    request: pytest.FixtureRequest, tested: str, folder: str, heeded: None, monkeypatch: pytest.MonkeyPatch
+    request: pytest.FixtureRequest, c_library: str, folder: str, heeded: None, monkeypatch: pytest.MonkeyPatch
 ) -> Iterator[str]:
-    """How the package for Python reads instances in a test: by the program under test, where this Python seems to lack
-    numpy; by the library for C, where it does, too; or by the program, where it has numpy."""
-    how: str = getattr(request, "param", "program")
-    if how == "library" and not os.path.exists(LIBRARY):
-        leave_out("the library (tools/c-library builds it)")
+    """What the package for Python has in a test: the library, and numpy or no numpy."""
+    how: str = getattr(request, "param", "plain")
     if how == "numpy" and not importlib.util.find_spec("numpy"):
         leave_out("numpy")
     if how != "numpy":
         monkeypatch.setitem(vars(sys)["modules"], "numpy", None)
     kept = dict(os.environ)
-    os.environ.update(DNORM=tested, DNORM_LIBRARY=LIBRARY if how == "library" else "none")
+    os.environ["DNORM_LIBRARY"] = f"{c_library}/lib/libdnorm.so.3"
     yield how
     os.environ.clear()
     os.environ.update(kept)
+
+
+@pytest.fixture(scope="session")
+def stand_in(c_library: str, tmp_path_factory: pytest.TempPathFactory) -> str:
+    """The path of a library that notes each text that has ended in the file $LOG, waits for $WAIT milliseconds, and
+    returns the code $CODE, if that is not 0. All else is the library's own."""
+    need("cc")
+    place = tmp_path_factory.mktemp("stand-in") / "libdnorm.so.3"
+    words = ["cc", "-shared", "-fPIC", "-o", str(place), f"{ROOT}/tests/python/stand_in.c", f"-I{c_library}/include"]
+    words += ["-Wl,--no-as-needed", f"{c_library}/lib/libdnorm.so.3", f"-Wl,-rpath,{c_library}/lib"]
+    assert run(words) == said()
+    return str(place)

@@ -451,5 +451,5 @@ def test_reports(made: Conformance, what: str, script: str, most: int, status: i
 @pytest.mark.parametrize("script, told", BATCHES)
 def test_failing_batch(made: Conformance, script: str, told: str) -> None:
     """What is told of readers that end or answer nothing."""
-    found = made.run("--batch", "--limit", "0.1", "--case", "first-min", "--case", "first-max", made.reader(script))
+    found = made.run("--batch", "--limit", "1", "--case", "first-min", "--case", "first-max", made.reader(script))
     assert (found.err, found.status, found.out.decode().count(told)) == (b"", 1, 2)

@@ -95,22 +95,20 @@ def check_flow(it: Network, out: str) -> None:
 
 
 @pytest.mark.parametrize("name", ["cost_scaling.c", "least_cost.cc", "least_cost.py"])
-def test_least_costs(c_library: str, tested: str, folder: str, name: str) -> None:
+def test_least_costs(c_library: str, folder: str, name: str) -> None:
     need("glpsol")
     if name == "least_cost.py" and run([sys.executable, "-c", "import scipy.optimize"]).status:
         leave_out("scipy")
     words = [sys.executable, f"{EXAMPLES}/{name}"] if name.endswith(".py") else [solver(name, c_library, folder)]
-    own = {**os.environ, "PYTHONPATH": f"{ROOT}/python/src"}
-    # The package for Python reads by the library, and by the program.
-    for road in [{"DNORM_LIBRARY": f"{c_library}/lib/libdnorm.so.3"}, {"DNORM_LIBRARY": "none", "DNORM": tested}]:
-        for seed in SEEDS:
-            it = network(Random(seed))
-            if name.endswith(".py") and not it.lines:
-                continue
-            write("text.min", it.text)
-            ran = run([*words, "text.min"], env={**own, **road})
-            assert (ran.status, ran.err) == (0, b""), it.text
-            check_flow(it, ran.out.decode())
+    own = {"PYTHONPATH": f"{ROOT}/python/src", "DNORM_LIBRARY": f"{c_library}/lib/libdnorm.so.3"}
+    for seed in SEEDS:
+        it = network(Random(seed))
+        if name.endswith(".py") and not it.lines:
+            continue
+        write("text.min", it.text)
+        ran = run([*words, "text.min"], env={**os.environ, **own})
+        assert (ran.status, ran.err) == (0, b""), it.text
+        check_flow(it, ran.out.decode())
 
 
 def roads(chance: Random) -> tuple[str, list[tuple[int, int, int]], list[int]]:

@@ -124,9 +124,9 @@ def test_status(given: str, status: int) -> None:
     assert run([EXPLAIN], given.encode()) == said(given, b"", status)
 
 
-def test_name_with_line_end(tested: str) -> None:
+def test_name_with_line_end(prefix: str) -> None:
     write("new\nline.gr", b"p sp 2 1\na 1 3 5\n")
-    found = run([EXPLAIN, "check", "new\nline.gr"], env={**os.environ, "DNORM": tested})
+    found = run([f"{prefix}/bin/dnorm-explain", "check", "new\nline.gr"])
     assert b"\n    line 2: a 1 3 5\n" in found.err
 
 
@@ -208,7 +208,7 @@ def explained(prefix: str) -> Callable[..., Answer]:
     write("u.gr", b"x\n")
     write("s.ss", b"p aux sp ss 2\ns 1\ns 7\n")
     os.mkdir("below")
-    environment = {it: value for it, value in os.environ.items() if it not in ("DNORM", "PYTHONPATH")}
+    environment = {it: value for it, value in os.environ.items() if it != "PYTHONPATH"}
     return lambda words, **own: run([f"{prefix}/bin/dnorm-explain", *words.split()], env={**environment, **own})
 
 
@@ -232,12 +232,11 @@ def test_wrong_words(explained: Callable[..., Answer], words: str, line: str) ->
     assert explained(words) == said(b"", f"dnorm: bad command line\n    {line}\n", 3)
 
 
-def test_right_words(prefix: str, explained: Callable[..., Answer]) -> None:
+def test_right_words(explained: Callable[..., Answer]) -> None:
     """dnorm-explain runs dnorm, explains what it refuses, and has its status."""
     assert explained("check t.gr") == said(b"accepted sp\nforms none\n")
     wanted = said(b"", b"u.gr:1: 1 BadLine\n    line 1: x\n", 2)
     assert explained("canon u.gr") == wanted
-    assert explained("canon u.gr", DNORM=f"env {prefix}/bin/dnorm") == wanted, "by a command"
     wanted = said(b"", b"s.ss: 35 NotInGraph 7\n    line 3 names it: s 7\n", 2)
     assert explained("check t.gr --with s.ss") == wanted
     assert explained("compare t.gr below") == said(b"", b"below: 31 Read\n    Is a directory\n", 4)

@@ -21,8 +21,8 @@ BAD = b"p aux sp ss 1\ns 9\n"
 class Repository:
     """A repository that has the scripts for git, with dnorm and dnorm-files on the path."""
 
-    def __init__(self, tested: str, folder: str) -> None:
-        self.top, self.tested = f"{folder}/top", tested
+    def __init__(self, tested: str, c_library: str, folder: str) -> None:
+        self.top = f"{folder}/top"
         os.makedirs(f"{folder}/bin")
         os.mkdir(self.top)
         os.symlink(tested, f"{folder}/bin/dnorm")
@@ -30,7 +30,7 @@ class Repository:
         who = {f"GIT_{one}_{it}": "a@example.org" for one in ["AUTHOR", "COMMITTER"] for it in ["NAME", "EMAIL"]}
         alone = {"GIT_CONFIG_GLOBAL": "/dev/null", "GIT_CONFIG_NOSYSTEM": "1"}
         self.environment = {**os.environ, **who, **alone, "PATH": f"{folder}/bin:{os.environ['PATH']}"}
-        self.environment["DNORM"] = tested
+        self.environment["DNORM_LIBRARY"] = f"{c_library}/lib/libdnorm.so.3"
         self.git("init", "-q")
         self.git("config", "diff.dnorm.textconv", f"{ROOT}/share/git/textconv")
         self.put(".gitattributes", b"*.gr diff=dnorm\n")
@@ -126,9 +126,9 @@ class Repository:
 
 
 @pytest.fixture
-def repository(tested: str, folder: str) -> Repository:
+def repository(tested: str, c_library: str, folder: str) -> Repository:
     need("git")
-    return Repository(tested, folder)
+    return Repository(tested, c_library, folder)
 
 
 def test_hook(repository: Repository) -> None:
@@ -195,14 +195,15 @@ def test_sparse(repository: Repository) -> None:
     repository.commits("a link and a companion", b"far/y.ss: 35 NotInGraph 9\n    line 2 names it: s 9\n" + ONE_OF_TWO)
 
 
-def test_other_program(repository: Repository) -> None:
-    """A program that is not dnorm accepts nothing."""
+def test_no_library(repository: Repository) -> None:
+    """Nothing is accepted without the library."""
     repository.put("x.gr", b"x\n")
-    for it in ["/bin/true", "true", "/none", "env /none"]:
-        repository.environment["DNORM"] = it
+    library = repository.environment["DNORM_LIBRARY"]
+    for it in ["/bin/true", "/none", library.replace(".so.3", ".a")]:
+        repository.environment["DNORM_LIBRARY"] = it
         found = repository.git("commit", "-q", "-m", "x")
         assert (found.status, found.err.count(b"\n")) == (1, 1), f"a commit by {it}: {found.err.decode()}"
-    repository.environment["DNORM"] = repository.tested
+    repository.environment["DNORM_LIBRARY"] = library
     assert repository.git("commit", "-q", "-m", "x").status == 1, "a refused text"
 
 

@@ -1,4 +1,4 @@
-"""scale/canon-in-parts against one run of the built program: the bytes, the line on standard error and the status are
+"""canon-in-parts against one run of the built program: the bytes, the line on standard error and the status are
 the same. The texts are of all kinds, clean, noisy and with unusual spelling. They are cut into chunks of one line up
 to more than the text, and into one range up to more ranges than lines."""
 
@@ -8,6 +8,7 @@ import shlex
 import shutil
 import signal
 import subprocess
+import sys
 import time
 from typing import Any
 
@@ -18,7 +19,7 @@ from shared import LIMIT, ROOT, Answer, pipe, run, said, text_of, write
 from texts import lines_of, made, spelled, spoilt
 
 pytestmark = pytest.mark.whole
-SCRIPT = f"{ROOT}/scale/canon-in-parts"
+SCRIPT = f"{ROOT}/canon-in-parts"
 HALF = MOST // 2 + 1
 
 NOISY = (
@@ -99,6 +100,14 @@ FAILING = [
     ("echo 'out: 33 Write' >&2; exit 4", "33 Write"),
     ("exit 7", "dnorm did not answer as it should (its status was 7, and it printed '')"),
 ]
+# Lines on standard error that no run prints, with their status.
+OTHER_LINES = [
+    ("-:7: 17 SumTooLarge", 4), ("-:7: 17 SumTooLarge", 3), ("-:7: 17 SumTooSmall", 2), ("-:7: 22 SumTooLarge", 2),
+    ("-: 17 SumTooLarge", 2), ("-:seven: 17 SumTooLarge", 2), ("x:7: 17 SumTooLarge", 2), ("-:7: 34 CountTooLarge", 2),
+    ("-: 30 Memory", 2), ("-:7: 30 Memory", 4), ("out: 30 Memory", 4), ("-: 33 Write", 4), ("differ nodes 1 2", 1),
+]  # fmt: skip
+ODD = "dnorm did not answer as it should (its status was {}, and it printed {!r})"
+FAILING += [(f"echo '{line}' >&2; exit {it}", ODD.format(it, f"{line}\n")) for line, it in OTHER_LINES]
 # Signals that end the script while it reads, or makes parts of this text. Without a text, the script waits for it.
 SIGNALS = [(signal.SIGTERM, SUPPLIES), (signal.SIGINT, b""), (signal.SIGHUP, b""), (signal.SIGINT, SUPPLIES)]
 # A program that runs the command in braces for a part. Its other runs are those of the built program: for the version,
@@ -163,6 +172,11 @@ def test_random(scale: Scale, seed: int) -> None:
     scale.parts(text, chance.choice([1, 2, 3, 5, 50]), chance.choice([0, 1, 2, 3, 20]), 1 + seed % 2)
 
 
+def test_early_fault(scale: Scale) -> None:
+    """The program reads a long part no further once it has found a fault."""
+    scale.parts(b"p sp 2 40002\na 1 2 3\na 1 2 x\n" + b"a 1 2 3\n" * 40_000, 100_000, 0, 1)
+
+
 def test_names(scale: Scale) -> None:
     """Names of texts and of the folder for temporary files."""
     wanted = run([scale.program, "canon", "--", "-n.min"])
@@ -217,6 +231,17 @@ def test_failing_part(scale: Scale, does: str, line: str) -> None:
     assert found == said(b"", f"canon-in-parts: a part failed: {line}\n", 4)
 
 
+@pytest.mark.parametrize("lacking", ["", "del os.waitid; "])
+def test_lost_status(scale: Scale, lacking: str) -> None:
+    """A process that ignores SIGCHLD gets no status of its children, and no text is taken for whole, also where the
+    system lacks a call."""
+    code = f"import os, sys; {lacking}sys.path.insert(0, {ROOT!r} + '/python/src'); "
+    command = [sys.executable, "-c", code + "from dnorm.parts.line import main; sys.exit(main())"]
+    own = ["bash", "-c", "trap '' CHLD; exec \"$@\"", "bash", *command, *scale.words("--lines", "3", "./-n.min")[1:]]
+    found = run(own)
+    assert (found.out, b"its status is lost" in found.err, found.status) == (b"", True, 4), found
+
+
 @pytest.mark.parametrize("number, text", SIGNALS)
 def test_signal(scale: Scale, heeded: None, number: signal.Signals, text: bytes) -> None:
     """A script that a signal ends, while it makes parts or reads, leaves no files and no processes."""
@@ -235,6 +260,30 @@ def test_signal(scale: Scale, heeded: None, number: signal.Signals, text: bytes)
     assert [it for it in text_of(begun).split() if is_running(it)] == [], "processes left"
 
 
+# A signal comes while the main thread waits, and has let the lock go.
+IN_A_WAIT = """
+import signal, sys, threading
+from dnorm.parts.line import main
+waited = threading.Condition.wait
+def wait(self, timeout=None):
+    if threading.current_thread() is threading.main_thread():
+        self._release_save()
+        signal.raise_signal(signal.SIGTERM)
+    return waited(self, timeout)
+threading.Condition.wait = wait
+sys.exit(main(sys.argv[1:]))
+"""
+
+
+def test_signal_in_a_wait(scale: Scale, heeded: None) -> None:
+    """A signal ends the script also where `threading` makes an error of its own of it."""
+    words = scale.words("--lines", "3", "./-n.min", tested=scale.stand_in("exec sleep 30"))[1:]
+    own = {**os.environ, "PYTHONPATH": f"{ROOT}/python/src", "PYTHONDONTWRITEBYTECODE": "1"}
+    found = run([sys.executable, "-c", IN_A_WAIT, *words], env=own)
+    assert found == said(b"", b"", 128 + signal.SIGTERM)
+    assert os.listdir(scale.temporary) == []
+
+
 def is_running(process: str) -> bool:
     """Whether a process has not ended. One that has ended, but was not waited for, has no arguments any more."""
     try:
@@ -247,13 +296,13 @@ def is_running(process: str) -> bool:
 @pytest.mark.parametrize("own, status", [('exec "$P" "$@"', 0), ("exit 125", 125)])
 def test_clone(tested: str, folder: str, own: str, status: int) -> None:
     """canon-in-parts of a clone takes the `./dnorm` of it, and has its status where it cannot build the program."""
-    os.makedirs("clone/scale")
-    os.symlink(f"{ROOT}/python", "clone/python")
-    shutil.copy(SCRIPT, "clone/scale/canon-in-parts")
+    shutil.copytree(f"{ROOT}/python", "clone/python", ignore=shutil.ignore_patterns("__pycache__"))
+    for it in [SCRIPT, f"{ROOT}/dnorm-files"]:
+        shutil.copy(it, "clone")
     write("clone/dnorm", f"#!/bin/sh\nP={shlex.quote(tested)}\n{own}\n")
     os.chmod("clone/dnorm", 0o755)
     wanted = run([tested, "canon", "-"], SUPPLIES).out if not status else b""
-    assert run(["clone/scale/canon-in-parts", "--lines", "2", "-"], SUPPLIES) == said(wanted, b"", status)
+    assert run(["clone/canon-in-parts", "--lines", "2", "-"], SUPPLIES) == said(wanted, b"", status)
 
 
 @pytest.mark.parametrize("count", [1, 3])
@@ -271,4 +320,5 @@ def test_old_python(scale: Scale, name: str) -> None:
     # A shim of pyenv is there for a Python that is not.
     if not shutil.which(name) or run([name, "--version"]).status:
         pass_over(name)
-    assert run([name, *scale.words("-")], SUPPLIES) == said(b"", b"canon-in-parts: it needs Python 3.9 or later\n", 4)
+    words = [name, f"{ROOT}/python/src/__main__.py", "canon-in-parts", *scale.words("-")[1:]]
+    assert run(words, SUPPLIES) == said(b"", b"canon-in-parts: it needs Python 3.9 or later\n", 4)

@@ -14,7 +14,7 @@ from shared import ROOT, Answer, run, said, text_of, write
 
 from dnorm.commands.line import TASKS
 
-FILES, PARTS = f"{ROOT}/dnorm-files", f"{ROOT}/scale/canon-in-parts"
+FILES, PARTS = f"{ROOT}/dnorm-files", f"{ROOT}/canon-in-parts"
 PAGES = [f"man1/{it}.1" for it in ["dnorm", "dnorm-files", "dnorm-explain", "canon-in-parts"]]
 PAGES += [f"man3/{it}.3" for it in ["dnorm.h", "dnorm_tools.h"]]
 WIDTH = 80

@@ -1,5 +1,5 @@
 """Tests the calls of the Python package on examples/refused and on random texts, with files as paths, bytes, streams
-and compressed files, and with programs that print other lines than dnorm."""
+and compressed files, also beside the program, and with too little memory."""
 
 import bz2
 import contextlib
@@ -14,13 +14,14 @@ import random
 import re
 import signal
 import sys
-from collections.abc import Callable
+from collections import Counter
+from collections.abc import Callable, Iterator
 from concurrent.futures import ThreadPoolExecutor
 from pathlib import Path
 from typing import Any, Literal
 
 import pytest
-from known import COSTS, ROADS, ROADS_CANON
+from known import CANONICAL, COSTS, ROADS, ROADS_CANON
 from reading import COUNTED, Fault, Text, canonical, read
 from refusal_table import with_example
 from shared import ROOT, Answer, bytes_of, run, write
@@ -32,8 +33,7 @@ PACKAGE = f"{ROOT}/python/src"
 FORMS: tuple[Literal[1, 2], ...] = (1, 2)
 # How a test reads instances: the parameters of the fixture `reader`.
 READS = [pytest.mark.whole, pytest.mark.usefixtures("reader")]
-BOTH = pytest.mark.parametrize("reader", ["program", "library"], indirect=True)
-ALL = pytest.mark.parametrize("reader", ["program", "library", "numpy"], indirect=True)
+BOTH = pytest.mark.parametrize("reader", ["plain", "numpy"], indirect=True)
 pytestmark = READS
 
 
@@ -74,7 +74,6 @@ CALLS: dict[str, Callable[[dnorm.File], object]] = {
 }  # fmt: skip
 
 
-@BOTH
 @pytest.mark.parametrize("name", sorted(os.listdir(REFUSED)))
 def test_refused(tested: str, name: str) -> None:
     """Every call with every text of examples/refused: as a path, bytes, a stream and compressed files. Errors name a
@@ -99,90 +98,47 @@ def test_all_refused() -> None:
     assert numbers == [it.number for it in with_example()]
 
 
-# What a program prints on standard error with its status, and what that is: only these lines are known.
-LINES = [
-    ("-:7: 17 SumTooLarge", 2, "Refused: -:7: 17 SumTooLarge"),
-    ("-:9223372036854775807: 21 TooLong", 2, "Refused: -:9223372036854775807: 21 TooLong"),
-    ("-:end: 18 NoProblem", 2, "Refused: -:end: 18 NoProblem"),
-    ("-: 34 CountTooLarge", 2, "Refused: -: 34 CountTooLarge"),
-    ("-: 35 NotInGraph 7", 2, "Refused: -: 35 NotInGraph 7"), ("-: 36 NotKinds", 2, "Refused: -: 36 NotKinds"),
-    ("-: 30 Memory", 4, "Memory: -: 30 Memory"), ("dnorm: 30 Memory", 4, "Memory: dnorm: 30 Memory"),
-    ("-: 31 Read", 4, "Read: -: 31 Read"), ("-: 32 Endless", 4, "Endless: -: 32 Endless"),
-    ("out: 33 Write", 4, "Write: out: 33 Write"),
-]  # fmt: skip
-# Lines that no run prints, with their status.
-OTHER_LINES = [
-    ("", 2), ("-:7: 17 SumTooLarge", 4), ("-:7: 17 SumTooLarge", 3), ("-:7: 17 SumTooSmall", 2),
-    ("-:7: 22 SumTooLarge", 2), ("-:7: 17 SumTooLarge 7", 2), ("-:7:17 SumTooLarge", 2), ("-: 17 SumTooLarge", 2),
-    ("-:seven: 17 SumTooLarge", 2), ("x:7: 17 SumTooLarge", 2), ("out:7: 17 SumTooLarge", 2),
-    ("/dev/fd/99:7: 17 SumTooLarge", 2), ("-:7: 17 SumTooLarge\n-:8: 17 SumTooLarge", 2), ("-:7: 34 CountTooLarge", 2),
-    ("-: 34 CountTooLarge", 4), ("-: 35 NotInGraph", 2), ("-: 36 NotKinds 7", 2), ("-: 30 Memory", 2),
-    ("-:7: 30 Memory", 4), ("out: 30 Memory", 4), ("dnorm: 31 Read", 4), ("-: 33 Write", 4),
-    ("dnorm: bad command line", 3), ("out of memory", 137),
-]  # fmt: skip
+@contextlib.contextmanager
+def standing_in(library: str, **settings: object) -> Iterator[None]:
+    """Lets calls and commands read by the library of the fixture `stand_in`, with these settings."""
+    kept = dict(os.environ)
+    os.environ.update({"DNORM_LIBRARY": library} | {name: str(it) for name, it in settings.items()})
+    yield
+    os.environ.clear()
+    os.environ.update(kept)
 
 
-def fake(name: str, body: str) -> str:
-    """Makes a program that says that it is dnorm, and does something else. Returns its path."""
-    write(name, f"#!/bin/bash\n[[ $1 != --version ]] || {{ echo dnorm 9; exit; }}\n{body}\n")
-    os.chmod(name, 0o755)
-    return os.path.abspath(name)
+def test_no_memory(stand_in: str) -> None:
+    """Every call says that a text needs more memory than there is."""
+    write("a.gr", ROADS)
+    write("kept", b"old")
+    with standing_in(stand_in, CODE=30):
+        for call, of in CALLS.items():
+            name = "-" if call == "compare, right" or call == "check, companion" else "a.gr"
+            assert told(lambda: of("a.gr")) == f"Memory: {name}: 30 Memory", call
+        assert told(lambda: dnorm.canon_to("a.gr", "kept")) == "Memory: a.gr: 30 Memory", "canon_to"
+        assert told(lambda: dnorm.write(dnorm.from_arrays("ss", sources=[1]), "kept")) == "Memory: kept: 30 Memory"
+    assert bytes_of("kept") == b"old", "what a file had"
 
 
-def unexpected(line: str, status: int) -> str:
-    """Returns the error for a line that no run prints."""
-    return f"Unexpected: -: dnorm did not answer as it should (its status was {status}, and it printed {line!r})"
-
-
-def test_failures() -> None:
-    """What the calls make of the lines of failed runs: those that the help has, and others."""
-    program = fake("fails", 'cat > /dev/null; printf "%s" "$ERR" >&2; exit "$STATUS"')
-    rows = [(f"{line}\n", status, wanted) for line, status, wanted in LINES]
-    for line, status in [*OTHER_LINES, *(it[:2] for it in LINES)]:
-        rows.append((line, status, unexpected(line, status)))
-    for line, status in OTHER_LINES:
-        rows.append((f"{line}\n", status, unexpected(f"{line}\n", status)))
-    for line, status, wanted in rows:
-        os.environ.update(ERR=line, STATUS=str(status))
-        assert told(lambda: dnorm.canon(ROADS, program=program)) == wanted, f"{status} {line!r}"
-        assert told(lambda: dnorm.check(ROADS, program=program)) == wanted, f"{status} {line!r}"
-
-
-# Standard output that no run prints, by the call; with a status if that is not 0.
-OUTPUTS = {
-    "check": ["", "accepted sp\n", "accepted SP\nforms 1\n", "accepted sp\nforms 3\n", "accepted sp\nforms 1", "same\n",
-              "accepted sp\nfits sp\nforms 1\n", "accepted sp\nfits ss\nforms 1\n", "accepted sp\nforms 1\n\n",
-              "accepted sp\nforms 2 1\n"],
-    "compare": ["", "same", "differ\n", "differ kind sp xs\n", "differ nodes 1 none\n", "differ item 1 2\n",
-                "same\nsame\n", "differ pair 1 2 length 3\n", "differ pair 1 2 amount 3 cost 4\n",
-                "differ supply 1 2\n", "differ nodes 1 2"],
-    "read": ["", "p sp 0 0", "p sp 0 1\n", "p xs 0 0\n", "p sp 2 1\nb 1 2 3\n", "p sp 2 1\na 1 2 3",
-             "p sp 2 1\nn 1 1\na 1 2 3\n", "p sp 2 2\na 1 2 3\na 1 2\n4\n", "p max 2 0\nn 1 s\n",
-             "p max 2 0\nn 1 s\nn 2 x\n", "p max 2 0\nn s 1\n", "p min 2 0\nn 1\n", "p min 2 0\nx 1 2\n",
-             *(f"p sp 2 1\na {it}\n" for it in ["1 2 3\na 1 2 4", "1 2", "1 2 +3", "1 2 1_0", "1 2 3 4", "1-2 3",
-               "1-2 3 4", "1 2 -", "1 2 --3", "1 2 3-", "1 a2 3", "1 2 3a", "1  2", "-", f"1 2 {2**63}"])],
-}  # fmt: skip
-
-
-@ALL
-def test_outputs() -> None:
-    """The calls take no output that a run cannot print, and no answer with the status of another."""
-    program = fake("says", 'cat > /dev/null; printf "%s" "$OUT"; exit "$STATUS"')
-    calls: dict[str, Callable[[], object]] = {
-        "check": lambda: dnorm.check(ROADS, program=program),
-        "compare": lambda: dnorm.compare(ROADS, b"", program=program),
-        "read": lambda: dnorm.read(ROADS, program=program),
-    }
-    rows = [(call, out, 0) for call, outs in OUTPUTS.items() for out in outs]
-    rows += [("compare", "same\n", 1), ("compare", "differ nodes 1 2\n", 0), ("check", "accepted sp\nforms 1\n", 1)]
-    rows += [("read", "p sp 0 0\n", 1)]
-    for call, out, status in rows:
-        os.environ.update(OUT=out, STATUS=str(status))
-        found = told(calls[call])
-        assert found.startswith("Unexpected: -: "), f"{call} does not take {out!r} with status {status}: {found}"
-    os.environ.update(OUT="accepted sp\nforms 1\n", STATUS="0")
-    found = told(lambda: dnorm.check(ROADS, b"", program=program))
-    assert found.startswith("Unexpected: -: "), f"check with a companion says that it fits: {found}"
+def test_as_program(tested: str) -> None:
+    """`check` and `compare` answer what the program prints, also of canonical texts and of texts near them."""
+    chance = random.Random(SEED)
+    texts = [text for row in CANONICAL for text in row]
+    texts += [spelled(chance, lines_of(chance, made(chance, chance.choice([*COLUMNS])))) for _ in range(ROUNDS)]
+    texts.append(b"p sp 20000 20000\n" + b"".join(b"a %d 1 7\n" % it for it in range(1, 20_001)))
+    texts += [b"", b"p", b"c\n" + ROADS, ROADS_CANON + b"c\n", ROADS_CANON[:-1], b" " + ROADS_CANON]
+    forms: Counter[str] = Counter()
+    for at, text in enumerate(texts):
+        ran = run([tested, "check", "-"], text)
+        found = told(lambda: dnorm.check(text))
+        assert found == (ran.out.decode() or f"Refused: {ran.err.decode()[:-1]}"), f"check {text!r:.80}"
+        forms[found.partition("forms ")[2][:-1]] += 1
+        write("other", texts[at - 1])
+        ran = run([tested, "compare", "-", "other"], text)
+        found = told(lambda: dnorm.compare(text, "other"))
+        assert found == (ran.out.decode() or f"Refused: {ran.err.decode()[:-1]}"), f"compare {text!r:.80}"
+    assert min(forms[it] for it in ("1 2", "1", "2", "none")) > 1, f"forms: {forms}"
 
 
 # Names of files. The bytes of some are not UTF-8, and some look like the line of a refusal or an option.
@@ -241,15 +197,14 @@ def test_errors() -> None:
         dnorm.Refused("a.gr", *it) for it in [(3, 13, "NodeOutOfRange"), (None, 18, "NoProblem")]
     ]
     found += [dnorm.Refused("s.ss", None, 35, "NotInGraph", 7), dnorm.Memory("a.gr"), dnorm.Endless("a.gr")]
-    found += [dnorm.Read("a.gr"), dnorm.Read("a.gr", "why"), dnorm.Write("out", "why"), dnorm.NoProgram("dnorm", "why")]
-    found += [dnorm.Killed("a.gr", 9), dnorm.Unexpected("a.gr", "why")]
+    found += [dnorm.Read("a.gr"), dnorm.Read("a.gr", "why"), dnorm.Write("out", "why"), dnorm.NoLibrary("lib", "why")]
+    found += [dnorm.TimedOut("a.gr", 0.5)]
     for error in found:
         again = pickle.loads(pickle.dumps(error))
         assert (type(again), str(again), vars(again)) == (type(error), str(error), vars(error)), f"{error!r}, pickled"
     lines = ["a.gr:3: 13 NodeOutOfRange", "a.gr:end: 18 NoProblem", "s.ss: 35 NotInGraph 7", "a.gr: 30 Memory"]
     lines += ["a.gr: 32 Endless", "a.gr: 31 Read", "a.gr: 31 Read (why)", "out: 33 Write (why)"]
-    lines += ["dnorm: cannot be run (why)", "a.gr: dnorm was ended by signal 9 (SIGKILL)"]
-    lines += ["a.gr: dnorm did not answer as it should (why)"]
+    lines += ["lib: cannot be used (why)", "a.gr: took more than 0.5 seconds"]
     assert [str(it) for it in found] == lines, "lines of errors"
     first = dnorm.Refused("a.gr", 3, 13, "NodeOutOfRange")
     assert first.sentence == "A node is not in 1 to NODES; in a companion, below 1.", "a sentence"
@@ -277,7 +232,7 @@ COLUMNS = {
 }  # fmt: skip
 
 
-@ALL
+@BOTH
 def test_columns() -> None:
     """The columns of instances: random ones, and ones whose texts have many pieces."""
     chance = random.Random(SEED)

@@ -29,13 +29,14 @@ def fields_of_hook() -> dict[str, str]:
     return {name: value.strip("'") or " ".join(lines.split()) for name, lines, value in FIELD.findall(text_of(HOOKS))}
 
 
-def make_release(tested: str) -> None:
+def make_release(tested: str, c_library: str) -> None:
     """Makes the files of a release in the folder `release`."""
     os.mkdir("release")
     name = f"dnorm-{VERSION}-x86_64-linux"
     with tarfile.open(f"release/{name}.tar.gz", "w:gz") as archive:
         archive.add(os.path.realpath(tested), f"{name}/dnorm")
         archive.add(f"{ROOT}/dnorm-files", f"{name}/dnorm-files")
+        archive.add(f"{c_library}/lib/libdnorm.so.3", f"{name}/lib/libdnorm.so.3")
         for _, place, _ in listed():
             if place.startswith(("python/src/", "web/")):
                 archive.add(f"{ROOT}/{place}", f"{name}/{place}")
@@ -50,7 +51,7 @@ class Runner:
         text = text_of(WORKFLOW)
         self.steps = [(bool(always), textwrap.dedent(it)) for always, it in STEP.findall(text)]
         here = os.getcwd()
-        self.environment = {it: value for it, value in os.environ.items() if it not in ("DNORM", "PYTHONPATH")}
+        self.environment = {it: value for it, value in os.environ.items() if it not in ("DNORM_LIBRARY", "PYTHONPATH")}
         self.environment |= dict(VALUE.findall(text))
         self.environment |= {"RELEASE": f"file://{here}/release", "VERSION": VERSION, "PYTHONDONTWRITEBYTECODE": "1"}
         self.environment |= {"RUNNER_TEMP": f"{here}/temp", "GITHUB_PATH": f"{here}/path", "GITHUB_ENV": f"{here}/env"}
@@ -72,7 +73,7 @@ class Runner:
         return found
 
 
-def test_workflow(tested: str) -> None:
+def test_workflow(tested: str, c_library: str) -> None:
     """The steps of the workflow, and that it fetches the release of this version."""
     version = run([tested, "--version"]).out.decode().split()[1]
     # Between releases, it fetches the last one.
@@ -80,7 +81,7 @@ def test_workflow(tested: str) -> None:
         assert dict(VALUE.findall(text_of(WORKFLOW)))["VERSION"] == version, "the release that it fetches"
     if not shutil.which("curl"):
         leave_out("curl")
-    make_release(tested)
+    make_release(tested, c_library)
     os.makedirs("texts/below")
     write("texts/below/roads.gr", ROADS)
     runner = Runner()

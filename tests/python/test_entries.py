@@ -65,18 +65,19 @@ def is_refused(what: str, found: Answer) -> None:
     assert found.status, f"the status of {what}"
 
 
-def environment(tested: str, folders: str = "{}") -> dict[str, str]:
-    """Returns an environment with the program, in which lists of folders have this form."""
-    others = {it: value for it, value in os.environ.items() if it != "PYTHONPATH"}
+def environment(folders: str = "{}") -> dict[str, str]:
+    """Returns an environment in which lists of folders have this form."""
+    # Without $DNORM_LIBRARY, the scripts of a clone also run tools/c-library.
+    others = {it: value for it, value in os.environ.items() if it not in ("PYTHONPATH", "DNORM_LIBRARY")}
     lists = {"PATH": folders.format(os.environ["PATH"]), "PYTHONPATH": folders.format("/none")}
-    return {**others, **lists, "DNORM": tested, "PYTHONDONTWRITEBYTECODE": "1"}
+    return {**others, **lists, "PYTHONDONTWRITEBYTECODE": "1"}
 
 
 @pytest.mark.parametrize("folders", LISTS)
-def test_scripts(tested: str, folders: str) -> None:
+def test_scripts(folders: str) -> None:
     """The scripts, where $PATH and $PYTHONPATH name the current folder, too."""
     make_traps(imported(*COMMANDS) | {*OPTIONAL})
-    own = environment(tested, folders)
+    own = environment(folders)
     rows = [[f"{ROOT}/dnorm-files", "check", "."], [f"{ROOT}/share/ci/check-files", "bad.gr"]]
     rows += [[f"{ROOT}/dnorm-files", it, "bad.gr"] for it in ("manifest", "same", "list")]
     rows += [[f"{ROOT}/dnorm-files", "compare", "bad.gr", "bad.gr"], [f"{ROOT}/dnorm-explain", "check", "bad.gr"]]
@@ -89,8 +90,8 @@ def test_scripts(tested: str, folders: str) -> None:
 def test_python_scripts(tested: str) -> None:
     """The scripts in Python, with modules in the current folder."""
     make_traps(imported(*COMMANDS, "json", "xml.etree.ElementTree") | {*OPTIONAL})
-    own = environment(tested)
-    given = run([f"{ROOT}/scale/canon-in-parts", "bad.gr"], env=own)
+    own = environment()
+    given = run([f"{ROOT}/canon-in-parts", "bad.gr"], env=own)
     assert (text_of("../ran"), given.out, given.status) == ("", b"", 2), "canon-in-parts"
     given = run([f"{ROOT}/share/conformance/run.py", "--level", "accept", "--rule", "BadLine", tested], env=own)
     assert text_of("../ran") == "", "the conformance suite"
@@ -101,13 +102,13 @@ def test_python_scripts(tested: str) -> None:
 
 
 @pytest.mark.parametrize("words", [["-m", "dnorm"], ["-Bm", "dnorm"], ["-mdnorm"], ["-P", "-m", "dnorm"]])
-def test_module(tested: str, words: list[str]) -> None:
+def test_module(words: list[str]) -> None:
     """`python3 -m dnorm`: no module of the current folder runs but those that Python imports before the package."""
     if words[0] == "-P" and sys.version_info < (3, 11):
         need("Python 3.11")
     before = set() if words[0] == "-P" else imported("runpy", "pkgutil")
     make_traps((imported(*COMMANDS) | {*OPTIONAL}) - before)
-    own = {**environment(tested), "PYTHONPATH": PACKAGE}
+    own = {**environment(), "PYTHONPATH": PACKAGE}
     is_refused("python3 -m dnorm", run([sys.executable, *words, "check", "."], env=own))
 
 
@@ -130,14 +131,14 @@ def test_module_beside() -> None:
 
 
 @pytest.mark.parametrize("folders", LISTS)
-def test_git(tested: str, folders: str) -> None:
+def test_git(folders: str) -> None:
     """The hook for git, in a repository with such files."""
     need("git")
     make_traps(imported(*COMMANDS) | {*OPTIONAL})
     os.mkdir("../bin")
     os.symlink(f"{ROOT}/dnorm-files", "../bin/dnorm-files")
     git = shutil.which("git") or ""
-    own = environment(tested)
+    own = environment()
     own |= {f"GIT_{one}_{it}": "a@example.org" for one in ["AUTHOR", "COMMITTER"] for it in ["NAME", "EMAIL"]}
     own |= {"PATH": folders.format(f"{os.path.abspath('../bin')}:{os.environ['PATH']}"), "GIT_CONFIG_NOSYSTEM": "1"}
     subprocess.run([git, "init", "-q"], check=True, env=own)

@@ -1,5 +1,5 @@
-"""Tests the calls of the Python package where something fails: compressed files, streams and targets, a program that is
-missing, another one or killed, little memory, and processes whose standard streams are closed."""
+"""Tests the calls of the Python package where something fails: compressed files, streams and targets, limits, and
+processes whose standard streams are closed or that are interrupted."""
 
 import contextlib
 import gzip
@@ -11,18 +11,19 @@ import subprocess
 import sys
 import time
 from collections.abc import Callable
+from fractions import Fraction
 from pathlib import Path
 from typing import Any
 
 import pytest
-from known import ROADS, ROADS_CANON
+from known import COSTS, ROADS, ROADS_CANON
 from needs import need
-from shared import LIMIT, ROOT, bytes_of, run, write
-from test_calls import BOTH, CALLS, COMPRESS, PACKAGE, READS, fake, python, told
+from shared import LIMIT, bytes_of, run, write
+from test_calls import COMPRESS, PACKAGE, READS, python, standing_in, told
 
 import dnorm
 
-pytestmark = [*READS, BOTH]
+pytestmark = READS
 
 
 class Parts:
@@ -107,7 +108,7 @@ def test_streams() -> None:
         (Parts(ROADS, None), "Read: -: 31 Read (the stream has no data yet, and does not wait for them)"),
         (Parts(ROADS, "text"), "TypeError: the stream is not binary: its read() returned str"),
         (Parts(ROADS, 5), "TypeError: the stream is not binary: its read() returned int"),
-        (Parts(ROADS, MemoryError()), "MemoryError: "),
+        (Parts(ROADS, MemoryError()), "Memory: -: 30 Memory"),
     ]  # fmt: skip
     for stream, wanted in rows:
         parts = list(stream.pieces)
@@ -116,7 +117,7 @@ def test_streams() -> None:
         assert told(lambda: dnorm.compare(ROADS, Parts(*parts))) == as_right, f"compare with {parts!r:.80}"
         first = told(lambda: dnorm.compare(Parts(*parts), b"x\n"))
         assert first == ("Refused: -:1: 1 BadLine" if wanted == accepted else wanted), f"compare of {parts!r:.80}"
-        if not wanted.startswith(("TypeError", "MemoryError")):
+        if not wanted.startswith("TypeError"):
             found = told(lambda: dnorm.compare(b"x\n", Parts(*parts)))
             assert found == "Refused: -:1: 1 BadLine", f"left before {parts!r:.80}"
 
@@ -180,7 +181,7 @@ def test_targets() -> None:
     os.umask(before)
     assert stat.S_IMODE(os.stat("private").st_mode) == 0o600, "the mode by umask"
     os.symlink("/dev/full", "full.gz")
-    rows = {"/dev/full": "", "full.gz": " (No space left on device)", ".": " (Is a directory)"}
+    rows = {**dict.fromkeys(["/dev/full", "full.gz"], " (No space left on device)"), ".": " (Is a directory)"}
     rows |= {"no/x": " (No such file or directory)", "private/x": " (Not a directory)"}
     for path, reason in rows.items():
         assert told(lambda: dnorm.canon_to(ROADS, path)) == f"Write: {path}: 33 Write{reason}", f"canon_to {path}"
@@ -235,103 +236,34 @@ def test_sinks() -> None:
             assert told(lambda: call(ROADS, form)) == error, f"form {form!r}"
         found = told(lambda: dnorm.canon_to(ROADS, "none", form))
         assert (found, os.path.exists("none")) == (error, False), f"form {form!r}"
+    # Other numbers of Python, as those of numpy, name a form as well.
+    write("t.min", COSTS)
+    forms = [1.0, 2.0, True, Fraction(2)]
+    for form in forms:
+        for call in FORMED:
+            assert told(lambda: call(COSTS, form)) == told(lambda: call(COSTS, int(form))), f"form {form!r}"
+        (record,) = dnorm.check_folder("t.min", form=form).records
+        assert record.checksum == dnorm.checksum(COSTS, 1 if form == 1 else 2), f"form {form!r}"
 
 
-NONE = "there is no such program"
-WHERE = f"the wheels for Linux on x86-64 and ARM bring it, and {ROOT}/docs/FILES.md names other ways"
-# Where the program is looked for: the argument, $DNORM, PATH, and the error if it is not found.
-# Lists of folders that name only the current one, and one in it.
-AT = ["bin", ".:bin", "", ":", "./bin:", "/none::"]
-PLACES: list[tuple[str | None, str | None, str, str]] = [
-    ("bin/dnorm", None, "/none", ""), ("dnorm", "/none", "{}/bin", ""),
-    ("dnorm", "/none", "bin", f"NoProgram: dnorm: cannot be run ({NONE})"), (None, "bin/dnorm", "/none", ""),
-    (None, "dnorm", "{}/bin", ""), (None, None, "/none:{}/bin", ""), (None, "", "{}/bin", ""),
-    *[(None, None, it, f"NoProgram: dnorm: cannot be run ({NONE} on PATH, and $DNORM names none; {WHERE})") for it in
-        AT],
-    ("/none", "bin/dnorm", "bin", f"NoProgram: /none: cannot be run ({NONE})"),
-    ("bin", "bin/dnorm", "bin", f"NoProgram: bin: cannot be run ({NONE})"),
-    ("bin/plain", None, "bin", "NoProgram: bin/plain: cannot be run (the file cannot be run)"),
-    (None, "bin/plain", "bin", "NoProgram: bin/plain: cannot be run (the file cannot be run, and $DNORM names it)"),
-    (None, "/none", "bin", f"NoProgram: /none: cannot be run ({NONE}, and $DNORM names it)"),
-    (None, None, "/none", f"NoProgram: dnorm: cannot be run ({NONE} on PATH, and $DNORM names none; {WHERE})"),
-]  # fmt: skip
+# A process that writes the canonical text of a large text where no file may have more than 1,024 bytes.
+SHORT = """
+import dnorm, resource
+resource.setrlimit(resource.RLIMIT_FSIZE, (1024, 1024))
+try:
+    dnorm.canon_to("large.gr", "kept")
+except dnorm.DnormError as error:
+    print(error)
+"""
 
 
-def test_places(tested: str) -> None:
-    """Where the program is looked for."""
-    os.mkdir("bin")
-    os.symlink(tested, "bin/dnorm")
-    os.symlink(tested, "dnorm")
-    write("bin/plain", b"")
-    kept = dict(os.environ)
-    for program, named, path, error in PLACES:
-        os.environ["PATH"] = path.format(os.getcwd())
-        os.environ.pop("DNORM")
-        if named is not None:
-            os.environ["DNORM"] = named
-        found = told(lambda: dnorm.check(ROADS, program=program))
-        os.environ.update(kept)
-        assert found == (error or "accepted sp\nforms none\n"), f"program {program}, $DNORM {named}, PATH {path}"
-    assert f"dnorm {dnorm.version()}\n" == run([tested, "--version"]).out.decode(), "the version"
-
-
-def test_others() -> None:
-    """Programs that are not dnorm, and runs that are killed. Nothing of their output is taken."""
-    for name, body in {"empty": "", "silent": "#!/bin/bash\n", "dies": "#!/bin/bash\nkill -9 $$\n"}.items():
-        write(name, body)
-        os.chmod(name, 0o755)
-    says = "and dnorm prints its name and version"
-    rows = {
-        os.path.abspath("empty"): "(Exec format error)",
-        os.path.abspath("silent"): f"(for --version it printed '', {says})",
-        "/bin/cat": f"(for --version it printed '{run(['cat', '--version']).out.decode().splitlines()[0]}', {says})",
-    }
-    for program, reason in rows.items():
-        found = told(lambda: dnorm.canon(ROADS, program=program))
-        assert found == f"NoProgram: {program}: cannot be run {reason}", f"{program} as the program"
-    found = told(lambda: dnorm.version(program="./dies"))
-    assert found == "Killed: dnorm: dnorm was ended by signal 9 (SIGKILL)", "a version that is killed"
-    bodies = {
-        "killed": ("kill -9 $$", "9 (SIGKILL)"),
-        "early": ("head -c 9 > /dev/null; kill -TERM $$", "15 (SIGTERM)"),
-        "half": (r'cat > /dev/null; printf "p sp 3 5\na 1 2"; kill -SEGV $$', "11 (SIGSEGV)"),
-        "odd": ("kill -40 $$", "40"),
-    }
-    write("kept", b"old")
-    for name, (body, number) in bodies.items():
-        program, wanted = fake(name, body), f"Killed: -: dnorm was ended by signal {number}"
-        texts: list[dnorm.File] = [ROADS, ROADS * 50_000, io.BytesIO(ROADS)]
-        for text in texts:
-            assert told(lambda: dnorm.canon(text, program=program)) == wanted, f"canon is {name}"
-        assert told(lambda: dnorm.read(ROADS, program=program)) == wanted, f"read is {name}"
-        assert told(lambda: dnorm.canon_to(ROADS, "kept", program=program)) == wanted, f"canon_to is {name}"
-        assert bytes_of("kept") == b"old", f"a file after canon_to is {name}"
-
-
-def test_limits(tested: str) -> None:
-    """Runs with little memory, and with a limit on the size of files, by which writing a file fails halfway."""
-    count = 999_999
+def test_limits() -> None:
+    """A limit on the size of files, by which writing a file fails halfway."""
+    count = 99_999
     write("large.gr", f"p sp {count} {count}\n" + "".join(f"a {it} 1 1\n" for it in range(1, count + 1)))
-    little = fake("little", f'ulimit -v 24576; exec "{tested}" "$@"')
-    for call, of in CALLS.items():
-        if call in ["check", "canon", "canon_to", "checksum", "read", "compare, left"]:
-            found = told(lambda: of_program(of, "large.gr", little))
-            assert found == "Memory: large.gr: 30 Memory", f"{call} with little memory"
-    short = fake("short", f'ulimit -f 1; exec "{tested}" "$@"')
     write("kept", b"old")
-    found = told(lambda: dnorm.canon_to("large.gr", "kept", program=short))
-    assert found.startswith(("Killed: large.gr", "Write: kept")), f"a file that grows too large: {found}"
+    assert python(SHORT).out == b"kept: 33 Write (File too large)\n", "a file that grows too large"
     assert (bytes_of("kept"), [it for it in os.listdir(".") if it[0] == "."]) == (b"old", []), "what is left"
-
-
-def of_program(call: Callable[[dnorm.File], object], file: dnorm.File, program: str) -> object:
-    """Calls with another program, and without the library."""
-    kept = {it: os.environ[it] for it in ["DNORM", "DNORM_LIBRARY"]}
-    os.environ.update(DNORM=program, DNORM_LIBRARY="none")
-    try:
-        return call(file)
-    finally:
-        os.environ.update(kept)
 
 
 # Calls in a process of its own, which write what they lead to into a file; and the arguments are the closed streams.
@@ -346,20 +278,11 @@ answers += [dnorm.compare("new.gr", "g.gr")]
 with open("answers", "w") as file:
     print(*answers, sep="\\n", file=file)
 """
-# A process in which the status of a child is lost, and one that is interrupted.
-LOST = """
-import dnorm, signal
-signal.signal(signal.SIGCHLD, signal.SIG_IGN)
-for text in [b"p sp 0 0\\n", b"x\\n"]:
-    try:
-        print(dnorm.canon(text))
-    except dnorm.Unexpected as error:
-        print(error)
-"""
+# A process that is interrupted.
 INTERRUPTED = """
-import dnorm, sys
+import dnorm
 try:
-    dnorm.canon_to(b"p sp 0 0\\n", "new.gr", program=sys.argv[1])
+    dnorm.canon_to(b"p sp 0 0\\n", "new.gr")
 except KeyboardInterrupt:
     print("interrupted")
 """
@@ -407,8 +330,8 @@ def test_formats() -> None:
     assert sorted(os.listdir(".")) == sorted(f"roads.gr{end}" for end in ["", *COMPRESS]), "what is left"
 
 
-def test_processes() -> None:
-    """Processes whose standard streams are closed, that lose the status of a child, and that are interrupted."""
+def test_processes(stand_in: str) -> None:
+    """Processes whose standard streams are closed, and that are interrupted."""
     texts = {"g.gr": ROADS, "h.gr": b"p sp 2 0\n", "s.ss": b"p aux sp ss 0\n"}
     for name, text in texts.items():
         write(name, text)
@@ -418,16 +341,11 @@ def test_processes() -> None:
         write("answers", b"")
         python(CLOSED, *closed.split())
         assert bytes_of("answers") == wanted, f"without streams {closed}"
-    out = python(LOST).out
-    line = b"-: dnorm did not answer as it should (its status is lost, since SIGCHLD is ignored or something else"
-    assert [it.startswith(line) for it in out.splitlines()] == [True, True], "the status is lost"
     os.mkdir("empty")
-    # This program starts its work once it has the whole text. Before, an interrupt can come while Python starts it.
-    slow = fake("slow", "cat > /dev/null; echo $$ > started; exec sleep 60")
-    own = {**os.environ, "PYTHONPATH": PACKAGE}
-    command = [sys.executable, "-c", INTERRUPTED, slow]
-    process = subprocess.Popen(command, env=own, stdout=subprocess.PIPE, cwd="empty")
-    while process.poll() is None and not (os.path.exists("empty/started") and bytes_of("empty/started")):
+    with standing_in(stand_in, LOG="started", WAIT=60_000):
+        own = {**os.environ, "PYTHONPATH": PACKAGE}
+        process = subprocess.Popen([sys.executable, "-c", INTERRUPTED], env=own, stdout=subprocess.PIPE, cwd="empty")
+    while process.poll() is None and not os.path.exists("empty/started"):
         time.sleep(0.01)
     # A signal just before a call of the system waits for its end, so another one may be needed.
     while process.poll() is None:
@@ -437,4 +355,3 @@ def test_processes() -> None:
     out = process.communicate(timeout=LIMIT)[0]
     found = out, process.returncode, os.listdir("empty")
     assert found == (b"interrupted\n", 0, ["started"]), "an interrupted call"
-    assert not os.path.exists(f"/proc/{int(bytes_of('empty/started'))}/exe"), "the program is ended"

@@ -18,7 +18,7 @@ import pytest
 from known import COSTS, COSTS_TWO, ROADS, ROADS_CANON
 from needs import terminal
 from shared import LIMIT, Answer, bytes_of, run, said, write
-from test_calls import BOTH, COMPRESS, PACKAGE, READS, fake
+from test_calls import COMPRESS, PACKAGE, READS, standing_in
 
 from dnorm.commands.tasks import DONE
 from dnorm.records import SIZES
@@ -142,7 +142,6 @@ def again(lines: str) -> str:
     return "" if lines in found and not any(causes) else "".join(f"{it}{cause}" for it, cause in zip(found, causes))
 
 
-@BOTH
 @pytest.mark.parametrize("words, out, count, status", CHECKS, ids=[it[0] for it in CHECKS])
 def test_check(words: str, out: str, count: str, status: int) -> None:
     """Which files are checked, in which order, and the statuses."""
@@ -152,14 +151,12 @@ def test_check(words: str, out: str, count: str, status: int) -> None:
     assert module("check", "-q", *words.split()) == said(quiet, f"{count}\n", status), "-q"
 
 
-@BOTH
 def test_check_here() -> None:
     make_set()
     lines, count = LINES.replace("set/", "./"), "11 accepted, 2 refused, 0 failed, 4 other files\n"
     assert module("check", ".", cwd="set") == said(lines, again(lines) + count, 2)
 
 
-@BOTH
 @pytest.mark.parametrize("words", WRONG)
 def test_wrong_words(words: str) -> None:
     make_set()
@@ -169,7 +166,6 @@ def test_wrong_words(words: str) -> None:
     assert (found.out, found.status, found.err[: len(begin)]) == (b"", 3, begin)
 
 
-@BOTH
 @pytest.mark.parametrize("words", ["-h", "--help", *(f"{it} {way}" for it in COMMANDS for way in ("-h", "--help"))])
 def test_help(words: str) -> None:
     found = module(*words.split())
@@ -183,7 +179,6 @@ def give_up_rights() -> None:
             ctypes.CDLL(None).prctl(PR_CAPBSET_DROP, right, 0, 0, 0)
 
 
-@BOTH
 def test_permission() -> None:
     """Files and folders that may not be read."""
     make_set()
@@ -241,7 +236,6 @@ def test_odd_names() -> None:
     assert found == said("\n".join(pairs), count.replace("\n", ", 5 groups\n"), 0), "odd names in groups"
 
 
-@BOTH
 def test_reports() -> None:
     """The lines of JSON, and the report in the XML of JUnit."""
     make_set()
@@ -342,12 +336,12 @@ def on_terminal(*words: str) -> tuple[str, int]:
     return told.decode().replace("\r\n", "\n"), process.wait(LIMIT)
 
 
-def test_progress() -> None:
+def test_progress(stand_in: str) -> None:
     """The progress bar, which is drawn on a terminal only, and its removal before each line."""
-    slow = fake("slow", "sleep 0.3; cat > /dev/null; echo accepted sp; echo forms 1")
     names = [f"{it}.gr" for it in range(4)]
     make(dict.fromkeys(names, ROADS))
-    told, status = on_terminal("check", "--jobs", "1", "--program", slow, *names)
+    with standing_in(stand_in, WAIT=300):
+        told, status = on_terminal("check", "--jobs", "1", *names)
     assert status == 0, "the status on a terminal"
     bars = re.findall(r"\r\[(#*)\.*\] (\d) of 4, \d+ %", told)
     shares = [int(it) for it in re.findall(r"of 4, (\d+) %", told)]
@@ -358,50 +352,51 @@ def test_progress() -> None:
     assert [it.rpartition("\r")[2] for it in told.split("\n")] == wanted, "lines on a terminal"
 
 
-def test_together() -> None:
-    """As many programs run at once as were asked for."""
-    program = fake("counts", "echo + >> log; sleep 0.3; echo - >> log; cat > /dev/null; echo accepted sp; echo forms 1")
+def test_together(stand_in: str) -> None:
+    """As many files are read at once as was asked for."""
     names = [f"{it}.gr" for it in range(9)]
     make(dict.fromkeys(names, ROADS))
     for jobs in [1, 3]:
         write("log", "")
-        module("check", "--jobs", str(jobs), "--program", program, *names)
+        with standing_in(stand_in, WAIT=300, LOG="log"):
+            module("check", "--jobs", str(jobs), *names)
         steps = [1 if it == b"+" else -1 for it in bytes_of("log").split()]
         most = max(sum(steps[:at]) for at in range(len(steps) + 1))
-        assert (most, len(steps)) == (jobs, 18), f"programs at once with --jobs {jobs}"
+        assert (most, len(steps)) == (jobs, 18), f"files at once with --jobs {jobs}"
 
 
 RUNS = ["check", "check --junit kept", "manifest --output kept", "manifest", "same", "manifest --verify list"]
 
 
-def test_signals() -> None:
-    """A signal ends the programs, and leaves nothing half-written."""
-    slow = fake("slow", "echo $$ >> started; exec sleep 60")
+def test_signals(stand_in: str) -> None:
+    """A signal ends a run, and leaves nothing half-written."""
     names = [f"{it}.gr" for it in range(9)]
     make(dict.fromkeys(names, ROADS))
     write("list", "# form 1\n" + "".join(f"{'0' * 64}  {it}\n" for it in names))
     for words in RUNS:
         for number in [signal.SIGINT, signal.SIGTERM, signal.SIGHUP, signal.SIGQUIT]:
-            write("started", b"")
+            write("log", b"")
             write("kept", b"old")
             paths = names if "--verify" not in words else []
-            process = started(*words.split(), "--jobs", "2", "--program", slow, *paths, stdout=-1, stderr=-1)
-            while len(bytes_of("started").split()) < 2 and process.poll() is None:
+            with standing_in(stand_in, WAIT=60_000, LOG="log"):
+                process = started(*words.split(), "--jobs", "2", *paths, stdout=-1, stderr=-1)
+            while len(bytes_of("log")) < 4 and process.poll() is None:
                 time.sleep(0.01)
             process.send_signal(number)
             out, err = process.communicate(timeout=LIMIT)
             done = "the same" if "--verify" in words else DONE[words.split()[0]]
             line = f"0 {done}, 0 refused, 0 failed, 0 of 9 done\n".encode()
             assert (out, err, process.returncode) == (b"", line, -number), f"{words} after {number.name}"
-            assert (bytes_of("kept"), hidden(), still_running()) == (b"old", [], []), f"{words} leaves"
-    program = fake("one", "echo >> begun; sleep 0.5; cat > /dev/null; echo accepted sp; echo forms 1")
-    ignoring = started(
-        *["check", "--program", program, names[0]],
-        stdout=-1,
-        stderr=-1,
-        preexec_fn=lambda: signal.signal(signal.SIGHUP, signal.SIG_IGN),
-    )
-    while not os.path.exists("begun"):
+            assert (bytes_of("kept"), hidden()) == (b"old", []), f"{words} leaves"
+    write("log", b"")
+    with standing_in(stand_in, WAIT=500, LOG="log"):
+        ignoring = started(
+            *["check", names[0]],
+            stdout=-1,
+            stderr=-1,
+            preexec_fn=lambda: signal.signal(signal.SIGHUP, signal.SIG_IGN),
+        )
+    while not bytes_of("log"):
         time.sleep(0.01)
     ignoring.send_signal(signal.SIGHUP)
     ignoring.communicate(timeout=LIMIT)
@@ -423,37 +418,35 @@ sys.exit(main(sys.argv[1:]))
 """
 
 
-def test_signal_as_a_thread_starts() -> None:
+@pytest.mark.parametrize("words", ["check a.gr", "compare a.gr a.gr", "compare --timeout 60 a.gr pipe"])
+def test_signal_as_a_thread_starts(stand_in: str, words: str) -> None:
     """A signal ends a run also where `threading` makes an error of its own of it."""
     make({"a.gr": ROADS})
-    words = ["check", "--program", fake("slow", "exec sleep 60"), "a.gr"]
-    ran = run([sys.executable, "-c", IN_A_WAIT, *words], limit=30, env={**os.environ, **ENVIRONMENT})
-    assert ran == Answer(b"", b"0 accepted, 0 refused, 0 failed, 0 of 1 done\n", -signal.SIGTERM)
+    # Nothing writes it.
+    os.mkfifo("pipe")
+    with standing_in(stand_in, WAIT=200 if "compare" in words else 60_000):
+        own = {**os.environ, **ENVIRONMENT}
+    ran = run([sys.executable, "-c", IN_A_WAIT, *words.split()], limit=30, env=own)
+    told = b"" if "compare" in words else b"0 accepted, 0 refused, 0 failed, 0 of 1 done\n"
+    assert ran == Answer(b"", told, -signal.SIGTERM)
 
 
-def test_known_so_far() -> None:
+def test_known_so_far(stand_in: str) -> None:
     """A signal lets a check print what is known, also of files behind one that takes long; and that -x ends
     a check after the first fault."""
     names = [f"{it}.gr" for it in range(6)]
     make(dict.fromkeys(names, ROADS))
-    write("1.gr", b"slow\n")
+    os.remove("1.gr")
+    # Nothing writes it.
+    os.mkfifo("1.gr")
     write("3.gr", b"bad\n")
-    program = fake(
-        "some",
-        """
-        text=$(cat)
-        case $text in
-            slow) echo + >> log; exec sleep 60 ;;
-            bad) echo '-:1: 1 BadLine' >&2; echo + >> log; exit 2 ;;
-        esac
-        echo accepted sp; echo forms 1; echo + >> log""",
-    )
     for number in [signal.SIGINT, signal.SIGTERM]:
         write("log", "")
-        process = started("check", "--jobs", "2", "--program", program, *names, stdout=-1, stderr=-1)
-        while len(bytes_of("log")) < 12 and process.poll() is None:
+        with standing_in(stand_in, LOG="log"):
+            process = started("check", "--jobs", "2", *names, stdout=-1, stderr=-1)
+        while bytes_of("log").count(b"-") < 4 and process.poll() is None:
             time.sleep(0.01)
-        # The last program may not have ended.
+        # The last file may not have ended.
         time.sleep(0.3)
         process.send_signal(number)
         out, err = process.communicate(timeout=LIMIT)
@@ -462,6 +455,7 @@ def test_known_so_far() -> None:
         cause = "3.gr:1: 1 BadLine\n    line 1: bad\n4 accepted, 1 refused, 0 failed, 5 of 6 done\n"
         wanted = ("".join(lines).encode(), cause.encode(), -number)
         assert (out, err, process.returncode) == wanted, f"what is known at {number.name}"
+    os.remove("1.gr")
     write("1.gr", ROADS)
     for option in ["-x", "--exit-first"]:
         found = module("check", option, *names)
@@ -477,16 +471,6 @@ def test_known_so_far() -> None:
 def hidden() -> list[str]:
     """Returns the hidden files of this folder."""
     return [it for it in os.listdir(".") if it.startswith(".")]
-
-
-def still_running() -> list[int]:
-    """Returns which of the processes in the file `started` run a second later."""
-    for _ in range(100):
-        left = [int(it) for it in bytes_of("started").split() if os.path.exists(f"/proc/{int(it)}/exe")]
-        if not left:
-            break
-        time.sleep(0.01)
-    return left
 
 
 # Commands that print.
@@ -506,7 +490,7 @@ def timeless(text: bytes) -> bytes:
 
 
 @pytest.mark.parametrize("words", PRINTING)
-def test_outputs(tested: str, words: str) -> None:
+def test_outputs(words: str) -> None:
     """Streams that are closed, full or broken."""
     make_set()
     module("manifest", "--output", "list", "set/s.ss")
@@ -533,29 +517,15 @@ def test_all_streams() -> None:
     assert (warned.err, warned.status) == (b"3 accepted, 0 refused, 0 failed, 1 other file\n", 0), "with all warnings"
 
 
-def test_programs() -> None:
-    """Programs that are missing, other programs, killed or out of memory for a file, or print other lines."""
+def test_no_library(stand_in: str) -> None:
+    """A library that is missing, and one that runs out of memory."""
     make_set()
     for words in [["check", "set"], ["manifest", "set"], ["same", "set"]]:
-        found = module(*words, "--program", "/none")
-        assert found == said("", "/none: cannot be run (there is no such program)\n", 4), f"{words} by no program"
-    found = module("check", "set", "--program", "/bin/cat")
-    assert (found.out, found.err[:23], found.status) == (b"", b"/bin/cat: cannot be run", 4), "check by cat"
-    texts = {"1.gr": "p sp 0 0\n", "2.gr": "die\n", "3.gr": "want\n", "4.gr": "odd\n"}
-    for name, text in texts.items():
-        write(name, text)
-    program = fake(
-        "some",
-        """
-        case $(cat) in
-            die) kill -9 $$ ;;
-            want) echo '-: 30 Memory' >&2; exit 4 ;;
-            odd) echo 'Odd' ;;
-            *) echo accepted sp; echo forms 1 ;;
-        esac""",
-    )
-    lines = "1.gr: accepted sp\n2.gr: dnorm was ended by signal 9 (SIGKILL)\n3.gr: 30 Memory\n"
-    lines += "4.gr: dnorm did not answer as it should (its status was 0, and it printed 'Odd\\n')\n"
-    found = module("check", "--program", program, *texts)
-    count = "1 accepted, 0 refused, 3 failed\n"
-    assert found == said(lines, again(lines) + count, 4), "programs that fail"
+        with standing_in("/none"):
+            found = module(*words)
+        is_told = found.err.startswith(b"/none: cannot be used (/none: cannot open shared object file")
+        assert (found.out, is_told, found.err.count(b"\n"), found.status) == (b"", True, 1, 4), f"{words} by no library"
+    with standing_in(stand_in, CODE=30):
+        found = module("check", "set/roads.gr", "set/a-b.gr")
+    lines = "set/a-b.gr: 30 Memory\nset/roads.gr: 30 Memory\n"
+    assert found == said(lines, f"{again(lines)}0 accepted, 0 refused, 2 failed\n", 4), "little memory"

@@ -14,7 +14,7 @@ from collection import BAD, COUNT, FAULTS, NO, NO_GRAPH, OTHER_KIND, OTHERS, mak
 from known import ROADS
 from needs import need
 from shared import ROOT, Answer, run, write
-from test_calls import BOTH, READS
+from test_calls import READS
 from test_ci import fields_of_hook
 from test_folders import make, module
 
@@ -40,7 +40,6 @@ def remarked(remarks: dict[str, str], before: str = ": accepted [a-z0-9]+, ") ->
 STRICT = r": 31 Read \(accepted [a-z0-9]+, "
 
 
-@BOTH
 def test_by_package() -> None:
     """Tests `python3 -m dnorm check`, also with links to folders, with --strict and with names that are given."""
     remarks, faults = make_collection(), {**FAULTS, **make_pipes()}
@@ -68,14 +67,12 @@ def test_by_package() -> None:
 class Repository:
     """A repository with the collection, in the folder `coll`."""
 
-    def __init__(self, tested: str) -> None:
+    def __init__(self) -> None:
         os.mkdir("bin")
-        os.symlink(os.path.realpath(tested), "bin/dnorm")
         os.symlink(f"{ROOT}/dnorm-files", "bin/dnorm-files")
         who = {f"GIT_{one}_{it}": "a@example.org" for one in ["AUTHOR", "COMMITTER"] for it in ["NAME", "EMAIL"]}
         alone = {"GIT_CONFIG_GLOBAL": "/dev/null", "GIT_CONFIG_NOSYSTEM": "1", "LC_ALL": "C.UTF-8"}
         self.environment = {**os.environ, **who, **alone, "PATH": f"{os.getcwd()}/bin:{os.environ['PATH']}"}
-        self.environment["DNORM"] = os.path.abspath("bin/dnorm")
         self.git("init", "-q", "-b", "main")
         write("first.txt", "first")
         self.git("add", "first.txt")
@@ -90,13 +87,13 @@ class Repository:
         return found.err.decode().splitlines(), found.status
 
 
-def test_by_git(tested: str) -> None:
+def test_by_git() -> None:
     """The hook for git: it refuses a commit with these files, and a merge that brings them."""
     need("git")
     remarks = make_collection()
     for it in ["coll/.git", "coll/inst/CVS"]:
         shutil.rmtree(it)
-    repository = Repository(tested)
+    repository = Repository()
     repository.git("switch", "-q", "-c", "branch")
     repository.git("add", "coll")
     repository.git("commit", "-q", "-m", "a collection")
@@ -199,7 +196,7 @@ def later_pairs(repository: Repository) -> None:
     assert repository.lines("commit", "-q", "-m", "x") == wanted, "a commit of a text that is lost"
 
 
-def test_by_pre_commit(tested: str) -> None:
+def test_by_pre_commit() -> None:
     """The hook for pre-commit, called as pre-commit calls it: with the files that match its expressions."""
     remarks = make_collection()
     fields = fields_of_hook()
@@ -212,7 +209,7 @@ def test_by_pre_commit(tested: str) -> None:
     chosen = [it for it in names if re.search(fields["files"], it) and not re.search(fields["exclude"], it)]
     assert sorted(set(names) - set(chosen)) == sorted(OTHERS), "files that are not chosen"
     environment = {it: value for it, value in os.environ.items() if it != "PYTHONPATH"}
-    environment |= {"PYTHONDONTWRITEBYTECODE": "1", "DNORM": tested}
+    environment["PYTHONDONTWRITEBYTECODE"] = "1"
     found = run([f"{ROOT}/{fields['entry']}", *sorted(chosen)], env=environment)
     are_named("pre-commit", found.out.decode().splitlines(), {**FAULTS, **remarked(remarks)})
     assert found.status == 4, "its status"

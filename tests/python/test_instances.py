@@ -23,7 +23,7 @@ from known import ROADS, ROADS_CANON
 from needs import leave_out
 from reading import GRAPHS, MOST, Fault, Text, canonical, read
 from shared import ROOT, bytes_of, run
-from test_calls import ALL, BOTH, COLUMNS, FORMS, PACKAGE, READS, has_numpy, told
+from test_calls import BOTH, COLUMNS, FORMS, PACKAGE, READS, has_numpy, told
 from texts import lines_of, made, spelled
 
 import dnorm
@@ -45,7 +45,7 @@ KINDS: list[tuple[bytes, list[tuple[int, ...]], str]] = [
 ]
 
 
-@ALL
+@BOTH
 def test_values() -> None:
     """Instances of equal numbers are equal, also as copies, and that nothing of them can be written."""
     instances = [dnorm.read(text) for text, _, _ in KINDS]
@@ -106,7 +106,7 @@ NO_INTEGER = "object cannot be interpreted as an integer"
 OF_KINDS = "kind is one of dnorm.Sp, dnorm.Max, dnorm.Min, dnorm.Ss, dnorm.P2p, dnorm.Co, or its name"
 
 
-@ALL
+@BOTH
 def test_notebooks() -> None:
     """What notebooks do with instances: as files, by their kinds, as rows, as tables and as dictionaries."""
     roads, flow = dnorm.read(ROADS), dnorm.read(FLOW)
@@ -138,7 +138,7 @@ def test_notebooks() -> None:
     assert many.count("<tr>") == 12 and many.endswith("<tr><td>...</td></tr></table>"), many
 
 
-@ALL
+@BOTH
 def test_copies() -> None:
     """Instances keep copies of what callers give, which callers can go on writing; and what is made of an instance is
     no part of it."""
@@ -211,7 +211,7 @@ def test_numpy() -> None:
     ), "2^63"
 
 
-@ALL
+@BOTH
 def test_checked_numbers() -> None:
     """Which numbers, kinds and arguments are refused."""
     given = arrays({})
@@ -255,7 +255,7 @@ def test_checked_numbers() -> None:
         assert told(call) == wanted, wanted
 
 
-@ALL
+@BOTH
 def test_constructors() -> None:
     """What constructors and from_arrays take."""
     given = arrays({})
@@ -294,7 +294,6 @@ def instance_of(text: Text) -> dnorm.Instance:
     return dnorm.from_arrays(CLASSES[text.kind], **attributes)
 
 
-@BOTH
 def test_written() -> None:
     """The texts of random instances: the program accepts them, and they pose the problem of the instance."""
     chance = random.Random(SEED)
@@ -317,7 +316,7 @@ def test_written() -> None:
             assert found == again == wanted, given
 
 
-@ALL
+@BOTH
 def test_faulty() -> None:
     """The text of an instance with a fault replaces no file, and targets of other sorts."""
     dnorm.write(dnorm.read(ROADS), "roads.gr")
@@ -346,7 +345,6 @@ def test_faulty() -> None:
     assert found == "Write: /dev/full: 33 Write (No space left on device)", "a full disk"
 
 
-@BOTH
 def test_typed() -> None:
     """Runs the page of ordinary use, which tools/lint gives to mypy."""
     found = run(

@@ -1,44 +1,40 @@
-"""Tests where the Python package finds the library for C, and that `read` gives the same by it as by the program, also
-with little memory, from several threads and of two files at once; that `check --json` prints the same by both; and that
-no other library is used, one of another version least of all."""
+"""Tests where the Python package finds the library for C and that it takes no other one; and reads with little memory,
+from several threads, of two files at once, and without an end."""
 
 import functools
-import gzip
 import itertools
-import json
 import os
-import random
 import shutil
 import signal
+import sys
 import threading
 import types
-from collections import Counter
 from collections.abc import Callable
 from concurrent.futures import ThreadPoolExecutor
+from importlib.machinery import EXTENSION_SUFFIXES
 
 import pytest
-from collection import GRAPH, POINTER, SOURCES
-from known import CANONICAL, ROADS
-from needs import leave_out
-from shared import LIMIT, ROOT, run, said, write
-from test_calls import COLUMNS, READS, fake, python, told
-from test_folders import ENVIRONMENT, MODULE, make, timeless
-from texts import lines_of, made, spelled
+from known import ROADS
+from needs import need
+from shared import LIMIT, run, said, write
+from test_calls import PACKAGE, READS, python, told
+from test_folders import module
 
 import dnorm
 import dnorm.library
 import dnorm.limits
-from dnorm.program import children
 
-pytestmark = [*READS, pytest.mark.parametrize("reader", ["library"], indirect=True)]
-LIBRARY = f"{ROOT}/c/out/lib/libdnorm.so.3"
-SEED, ROUNDS = 77, 100
-# A process that thinks it is on another machine, and says where the library may be.
-ELSEWHERE = """
-import os, types
-os.uname = lambda: types.SimpleNamespace(machine="aarch64")
-import dnorm.library
-print(*dnorm.library.places_beside("/usr/bin/dnorm"))
+pytestmark = READS
+# A process that says which library it finds, as on a machine of this sort.
+FINDS = """
+import platform, sys
+if len(sys.argv) > 1:
+    platform.machine = lambda: sys.argv[1]
+import dnorm
+try:
+    print(dnorm.find_library())
+except dnorm.NoLibrary as error:
+    print(error)
 """
 # Other files of the name of the library: what each is made of, by a C compiler or as it is, and why it is none.
 OTHERS = {
@@ -46,6 +42,16 @@ OTHERS = {
     "foreign": ("int other(void) { return 1; }", "undefined symbol: dnorm_begin"),
     "text": (None, "file too short"),
 }
+# Where the package and the library may be: in a wheel, in one that setuptools has built, in an archive, in a clone,
+# below the prefix of ./install, and on Debian.
+PLACES = [
+    ("venv/lib/python3/site-packages", "venv/lib/python3/site-packages/dnorm/libdnorm.so.3"),
+    ("built/lib/python3/site-packages", f"built/lib/python3/site-packages/dnorm/libdnorm{EXTENSION_SUFFIXES[0]}"),
+    ("archive/python/src", "archive/lib/libdnorm.so.3"),
+    ("clone/python/src", "clone/c/out/lib/libdnorm.so.3"),
+    ("usual/share/dnorm/python", "usual/lib/libdnorm.so.3"),
+    ("debian/lib/python3/dist-packages", "debian/lib/riscv64-linux-gnu/libdnorm.so.3"),
+]
 # A process that reads texts until there is too little memory, with more of it each time.
 LITTLE = """
 import dnorm, resource, sys
@@ -74,112 +80,54 @@ print(peaks[1] - peaks[0])
 """
 
 
-def with_environment(call: Callable[[], object], **own: str | None) -> str:
-    """Returns what a call gives, with these variables, or without those that are None."""
-    kept = {it: os.environ.get(it) for it in own}
-    change(own)
-    found = told(call)
-    change(kept)
-    return found
+@pytest.mark.parametrize("package, library", PLACES)
+def test_places(c_library: str, package: str, library: str) -> None:
+    """The places of the library beside the package."""
+    shutil.copytree(f"{PACKAGE}/dnorm", f"{package}/dnorm", ignore=shutil.ignore_patterns("__pycache__"))
+    own = {"PYTHONPATH": os.path.abspath(package), "PYTHONDONTWRITEBYTECODE": "1"}
+    none = "libdnorm.so.3: cannot be used (it is not there; docs/FILES.md says where to get it)\n"
+    assert run([sys.executable, "-c", FINDS, "riscv64"], env=own) == said(none)
+    os.makedirs(os.path.dirname(library), exist_ok=True)
+    shutil.copy(f"{c_library}/lib/libdnorm.so.3", library)
+    found = run([sys.executable, "-c", FINDS, "riscv64"], env=own)
+    assert found == said(f"{os.path.abspath(library)}\n")
+    # A link to the package is the package, and another library may be named.
+    os.symlink(f"{package}/dnorm", "dnorm")
+    assert run([sys.executable, "-c", FINDS, "riscv64"], env={**own, "PYTHONPATH": os.getcwd()}) == found
+    shutil.copy(library, "other")
+    for named in ["other", os.path.abspath("other")]:
+        found = run([sys.executable, "-c", FINDS], env={**own, "DNORM_LIBRARY": named})
+        assert found == said(f"{os.path.abspath('other')}\n"), named
 
 
-def change(own: dict[str, str | None]) -> None:
-    for name, value in own.items():
-        if value is None:
-            os.environ.pop(name, None)
-        else:
-            os.environ[name] = value
-
-
-def test_places(tested: str) -> None:
-    """The places of the library beside the program, and when it is not used."""
-    rows = {"usual/bin": "usual/lib", "archive": "archive/lib", "alone": ""}
-    rows["debian/bin"] = f"debian/lib/{os.uname().machine}-linux-gnu"
-    for folder, place in rows.items():
-        os.makedirs(folder)
-        shutil.copy(tested, f"{folder}/dnorm")
-        if place:
-            os.makedirs(place)
-            shutil.copy(LIBRARY, place)
-        program = os.path.abspath(f"{folder}/dnorm")
-        os.makedirs(f"links/{folder}")
-        os.symlink(program, f"links/{folder}/dnorm")
-        wanted = f"{os.path.abspath(place)}/libdnorm.so.3\n" if place else "None\n"
-        for it in [program, os.path.abspath(f"links/{folder}/dnorm")]:
-            found = with_environment(lambda: dnorm.find_library(it), DNORM_LIBRARY=None)
-            assert found == wanted, f"the library of {it}"
-            found = with_environment(dnorm.find_library, DNORM=it, DNORM_LIBRARY="")
-            assert found == wanted, f"the library of $DNORM {it}"
-            found = with_environment(dnorm.find_library, DNORM=it, DNORM_LIBRARY="none")
-            assert found == "None\n", f"no library of {it}"
-        found = with_environment(lambda: dnorm.find_library(f"env {program}"), DNORM_LIBRARY=None)
-        assert found == "None\n", f"the library of a command with {program}"
-        found = with_environment(lambda: dnorm.find_library(program), DNORM_LIBRARY=LIBRARY)
-        assert found == wanted, f"the library of the argument {program}"
-    places = [f"/usr/{it}/libdnorm.so.3" for it in ("lib", "lib/aarch64-linux-gnu", "bin/lib")]
-    assert python(ELSEWHERE).out.decode().split() == places, "places on aarch64"
-    found = with_environment(dnorm.find_library, DNORM="/none", DNORM_LIBRARY=LIBRARY)
-    assert found == f"{LIBRARY}\n", "a library without a program"
-    found = with_environment(lambda: next(dnorm.read(ROADS).rows()), DNORM="/none", DNORM_LIBRARY=LIBRARY)
-    assert found == "(1, 2, 3)\n", "read without a program"
-    found = with_environment(lambda: dnorm.read(ROADS), DNORM="/none", DNORM_LIBRARY=None)
-    assert found.startswith("NoProgram: /none: "), f"neither: {found}"
-
-
-def test_others(tested: str) -> None:
-    """Another library beside the program is left alone, and that one that is named is an error."""
-    if not shutil.which("cc"):
-        leave_out("cc")
-    for name, (source, reason) in OTHERS.items():
-        os.makedirs(f"{name}/bin")
-        os.makedirs(f"{name}/lib")
-        shutil.copy(tested, f"{name}/bin/dnorm")
-        program, path = os.path.abspath(f"{name}/bin/dnorm"), os.path.abspath(f"{name}/lib/libdnorm.so.3")
-        write(f"{name}/it.c", source or "")
-        if source:
-            assert run(["cc", "-shared", "-fPIC", "-o", path, f"{name}/it.c"]) == said(), f"cc {name}"
-        else:
-            write(path, "text")
-        found = with_environment(lambda: dnorm.find_library(program), DNORM_LIBRARY=None)
-        assert found == "None\n", f"the library {name}"
-        found = with_environment(lambda: dnorm.read(ROADS, program=program), DNORM_LIBRARY=None)
-        assert found == "<dnorm.Sp: 3 nodes, 5 arcs>\n", f"read beside the library {name}"
-        found = with_environment(lambda: dnorm.read(ROADS), DNORM_LIBRARY=path)
-        is_told = found.startswith(f"NoProgram: {path}: cannot be run ($DNORM_LIBRARY names it, ") and reason in found
-        assert is_told, f"the library {name} by its name: {found}"
-    found = with_environment(lambda: dnorm.read(ROADS), DNORM_LIBRARY="/none")
-    assert found.startswith("NoProgram: /none: cannot be run ($DNORM_LIBRARY names it, "), f"no library: {found}"
-    slow = fake("slow", "exec sleep 60")
-    found = with_environment(lambda: dnorm.read(ROADS, program=slow, timeout=0.3), DNORM_LIBRARY=LIBRARY)
-    assert found == "TimedOut: -: took more than 0.3 seconds", "an argument is stronger"
-
-
-def test_same_checks() -> None:
-    """That `check --json` prints the same by both, also of compressed texts, with the forms in which a text is
-    canonical; and that by the library the program checks none of them."""
-    chance = random.Random(SEED)
-    texts = [text for row in CANONICAL for text in row]
-    texts += [spelled(chance, lines_of(chance, made(chance, chance.choice([*COLUMNS])))) for _ in range(ROUNDS)]
-    texts.append(b"p sp 20000 20000\n" + b"".join(b"a %d 1 7\n" % it for it in range(1, 20_001)))
-    texts += [b"", b"p", b"c\n" + ROADS, GRAPH + b"c\n", GRAPH[:-1], b" " + GRAPH, POINTER]
-    make({f"set/{at:03}.gr": text for at, text in enumerate(texts)} | {"set/x.ss": SOURCES, "set/x.gr": GRAPH})
-    make({f"set/{at:03}.min.gz": gzip.compress(text) for at, (_, text, _) in enumerate(CANONICAL)})
-    found = []
-    for library, program in [("none", None), (LIBRARY, None), (LIBRARY, fake("other", "cat > /dev/null; exit 5"))]:
-        own = {"DNORM_LIBRARY": library} | ({"DNORM": program} if program else {})
-        found.append(run([*MODULE, "check", "--json", "--companions", "set"], env={**os.environ, **ENVIRONMENT, **own}))
-    forms = Counter(str(json.loads(it).get("forms")) for it in found[0].out.splitlines())
-    assert min(forms[it] for it in ("[1, 2]", "[1]", "[2]", "[]", "None")) > 1, f"forms: {forms}"
-    # Each takes its own time.
-    records = [it._replace(out=timeless(it.out)) for it in found]
-    assert records[0] == records[1], "check --json by both"
-    assert records[0] == records[2], "check --json beside another program"
+@pytest.mark.parametrize("name", OTHERS)
+def test_others(c_library: str, name: str) -> None:
+    """Another library than this one is an error where it is named, and passed over where another one is found."""
+    need("cc")
+    (source, reason), path = OTHERS[name], os.path.abspath("libdnorm.so.3")
+    write("it.c", source or "")
+    if source:
+        assert run(["cc", "-shared", "-fPIC", "-o", path, "it.c"]) == said(), f"cc {name}"
+    else:
+        write(path, "text")
+    os.environ["DNORM_LIBRARY"] = path
+    found = told(lambda: dnorm.read(ROADS))
+    assert found.startswith(f"NoLibrary: {path}: cannot be used (") and reason in found, found
+    assert module("check", "it.c").status == 4, "a command"
+    os.environ["DNORM_LIBRARY"] = "/none"
+    found = told(lambda: dnorm.read(ROADS))
+    assert found.startswith("NoLibrary: /none: cannot be used (/none: cannot open shared object"), found
+    shutil.copytree(f"{PACKAGE}/dnorm", "a/b/c/dnorm", ignore=shutil.ignore_patterns("__pycache__"))
+    shutil.copy(path, "a/b/c/dnorm/libdnorm.so.3")
+    os.makedirs("a/lib")
+    shutil.copy(f"{c_library}/lib/libdnorm.so.3", "a/lib")
+    own = {"PYTHONPATH": os.path.abspath("a/b/c"), "PYTHONDONTWRITEBYTECODE": "1"}
+    assert run([sys.executable, "-c", FINDS], env=own) == said(f"{os.path.abspath('a/lib/libdnorm.so.3')}\n")
 
 
 def test_in_rooms() -> None:
     """Columns are copied whole in rooms of several sizes, and that after each room it is seen whether the
     time is over: looks at the clock are counted."""
-    os.environ["DNORM_LIBRARY"] = LIBRARY
     texts = {
         b"p sp 1000 1000\n" + b"".join(b"a %d 1 7\n" % it for it in range(1, 1001)): 1000,
         b"p aux sp co 1000\n" + b"".join(b"v %d 1 7\n" % it for it in range(1, 1001)): 1000,
@@ -203,7 +151,6 @@ def test_in_rooms() -> None:
 
 def test_in_threads() -> None:
     """Reads from several threads, that all of them stop, little memory, and a text without an end."""
-    os.environ["DNORM_LIBRARY"] = LIBRARY
     texts = [b"p sp 9 2\na %d 2 7\na %d 3 7\n" % (it % 9 + 1, it % 9 + 1) for it in range(200)] + [b"p sp 1 1\nq\n"]
     with ThreadPoolExecutor(8) as pool:
         found = list(pool.map(lambda it: told(lambda: [*dnorm.read(it).rows()]), texts))
@@ -216,9 +163,6 @@ def test_in_threads() -> None:
     assert is_known, f"little memory: {found_little}"
     more = int(python(MANY).out)
     assert more < 2000, f"forty reads take {more} kB more than twenty"
-    vars(children)["_is_stopped"] = True
-    assert told(lambda: dnorm.read(ROADS)).endswith("(all runs were stopped)"), "a read that is stopped"
-    vars(children)["_is_stopped"] = False
     kept, dnorm.library.ENDLESS = dnorm.library.ENDLESS, len(ROADS)
     assert told(lambda: dnorm.read(ROADS)) == "Endless: -: 32 Endless", "a text without an end"
     dnorm.library.ENDLESS = kept
@@ -227,7 +171,6 @@ def test_in_threads() -> None:
 def test_at_once(monkeypatch: pytest.MonkeyPatch) -> None:
     """Two calls at the same time, of which either may fail, also where no thread starts; and which refusal is told of
     two files that are read so."""
-    os.environ["DNORM_LIBRARY"] = LIBRARY
     wanted = threading.Event()
 
     def fail() -> str:

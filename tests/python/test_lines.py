@@ -1,16 +1,16 @@
-"""Tests that `read` returns the arc lines of a text beside its instance, by the library for C and by the program, and
-that a flow on the arcs is put back on the lines; and where the arcs of each node are."""
+"""Tests that `read` returns the arc lines of a text beside its instance, and that a flow on the arcs is put back on the
+lines; and where the arcs of each node are."""
 
 import random
 
 import pytest
 from known import CANONICAL, FLOWS, REFUSED, ROADS
-from test_calls import ALL, COLUMNS, FORMS, READS
+from test_calls import BOTH, COLUMNS, FORMS, READS
 from texts import lines_of, made, spelled
 
 import dnorm
 
-pytestmark = [*READS, ALL]
+pytestmark = [*READS, BOTH]
 ROUNDS = 60
 
 

@@ -3,15 +3,15 @@ only what is new or was written."""
 
 import hashlib
 import os
-import shlex
 import shutil
+import sys
 import time
 
 import pytest
 from known import COSTS, FLOWS, ROADS
 from shared import bytes_of, run, said, text_of, write
-from test_calls import BOTH, READS, fake
-from test_folders import MISSING, SET, hidden, make, make_set, module
+from test_calls import READS
+from test_folders import ENVIRONMENT, MISSING, SET, hidden, make, make_set, module
 
 import dnorm
 
@@ -47,7 +47,6 @@ def sum_of(tested: str, text: bytes, form: str) -> str:
     return hashlib.sha256(run([tested, "canon", "--form", form, "-"], text).out).hexdigest()
 
 
-@BOTH
 def test_manifests(tested: str) -> None:
     """Manifests: what they list, and what verifying them says."""
     make_set()
@@ -159,7 +158,6 @@ def moved(source: str, name: str) -> None:
     os.replace(source, name)
 
 
-@BOTH
 def test_renewed() -> None:
     """That `manifest --incremental` reads only what is new or was written, whatever its size, its time and its name
     are."""
@@ -226,14 +224,28 @@ def test_edited_marks() -> None:
     assert (found, text_of("list")) == (said("", told, 0), text), "marks of an earlier version"
 
 
+# Runs dnorm-files with these arguments, in a process that runs a command each time it has opened a file.
+WRITES = """
+import os, sys
+import dnorm.files
+from dnorm.commands.line import main
+mark_of = dnorm.files.mark_of
+def marked(file):
+    found = mark_of(file)
+    os.system({!r})
+    return found
+dnorm.files.mark_of = marked
+sys.exit(main())
+"""
+
+
 @pytest.mark.parametrize("meanwhile", ["", "; touch -r kept set/a.gr"])
-def test_written_meanwhile(tested: str, meanwhile: str) -> None:
+def test_written_meanwhile(meanwhile: str) -> None:
     """A file that is written while it is listed has no mark, even if it gets back its size and its time."""
     make({"set/a.gr": ROADS, "kept": ROADS})
     shutil.copy2("set/a.gr", "kept")
     time.sleep(AGE)
-    script = f'[ "$1" = --version ] || {{ cat kept > set/a.gr{meanwhile}; }}; exec {shlex.quote(tested)} "$@"'
-    os.environ["DNORM"], os.environ["DNORM_LIBRARY"] = fake("writes", script), "none"
-    module(*BEGIN)
+    code = WRITES.format(f"cat kept > set/a.gr{meanwhile}")
+    assert run([sys.executable, "-c", code, *BEGIN], env={**os.environ, **ENVIRONMENT}).status in (0, 4)
     found = text_of("list") if os.path.exists("list") else ""
     assert "\t" not in found, f"a mark, {meanwhile}"

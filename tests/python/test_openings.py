@@ -10,15 +10,14 @@ from typing import Any
 from known import ROADS, ROADS_CANON
 from needs import leave_out, need_proc
 from shared import Answer, bytes_of, python_with, run, write
-from test_calls import BOTH, READS, told
+from test_calls import READS, told
 from test_folders import ENVIRONMENT, MODULE
 
 import dnorm
 import dnorm.files
-from dnorm.library import library_of
 from dnorm.records import Reading, Record
 
-pytestmark = [*READS, BOTH]
+pytestmark = READS
 OTHER = b"p sp 1 1\na 1 1 1\n"
 BAD = b"p sp 2 1\na 1 3 5\n"
 SAME = "same\npairs: 0 only left, 0 only right, 5 in both, 0 of them different\n"
@@ -83,7 +82,7 @@ class Meanwhile:
 
 
 def record_of(name: str) -> Record:
-    found = Reading(None, library_of(None), tells="contents").record(name)
+    found = Reading(tells="contents").record(name)
     if found.error:
         raise found.error
     return found._replace(seconds=0)
@@ -123,12 +122,11 @@ def test_meanwhile() -> None:
             with Meanwhile(append):
                 assert told(call) == CHANGED, f"{name} of {text!r:.20}, written"
     write("t.gr", BAD)
-    for library in [None, library_of(None)]:
-        with Meanwhile(replace):
-            try:
-                dnorm.read("t.gr") if library else dnorm.check("t.gr")
-            except dnorm.Refused as error:
-                assert (error.text, error.hint) == ("a 1 3 5", HINT), "the cause in what was opened"
+    with Meanwhile(replace):
+        try:
+            dnorm.check("t.gr")
+        except dnorm.Refused as error:
+            assert (error.text, error.hint) == ("a 1 3 5", HINT), "the cause in what was opened"
 
 
 CHANGED = "Read: t.gr: 31 Read (it changed while it was read)"
@@ -141,7 +139,6 @@ if sys.argv[1] == "without":
     sys.modules["numpy"] = None
 import dnorm
 from dnorm.records import Reading
-from dnorm.library import library_of
 chance = random.Random(64)
 LIMITS = {"sp": [(-2**63, 2**63 - 1)], "max": [(0, 2**40)], "min": [(0, 3), (3, 2**62), (-2**63, 2**63 - 1)]}
 LIMITS |= {"co": [(-2**63, 2**63 - 1)] * 2, "ss": [(1, 9)], "p2p": [(1, 9)] * 2}
@@ -164,7 +161,7 @@ for kind in LIMITS:
             open("left", "wb").write(texts[0])
             try:
                 found = dnorm.differences(*texts), dnorm.differences(*texts, 2)
-                one = Reading(None, library_of(None), 2, tells="contents").record("left")
+                one = Reading(2, tells="contents").record("left")
                 print([vars(it) for it in found], one._replace(seconds=0))
             except dnorm.Refused as error:
                 print(error)

@@ -7,12 +7,11 @@ import re
 import shlex
 import shutil
 import sys
-from collections import Counter
 
 import pytest
 from known import ROADS
-from needs import pass_over
-from shared import ROOT, run, said, text_of, write
+from needs import leave_out, pass_over
+from shared import ROOT, python_with, run, said, text_of, write
 from test_calls import PACKAGE, READS
 from test_folders import ENVIRONMENT, module
 
@@ -73,46 +72,90 @@ def test_python(name: str) -> None:
     assert (found.out, found.status) == (b"examples/roads.gr: accepted sp\n", 0)
 
 
-# What the `./dnorm` and the tools/program of a clone do, in sh, and how often each is called for two files.
-CLONES = {
-    "a program": ('echo own >> log; exec "$P" "$@"', "echo found >> log; echo $P", {"found": 1}),
-    "no program yet": ('echo own >> log; exec "$P" "$@"', "echo found >> log; exit 125", {"found": 1, "own": 3}),
-}
-
-
-@pytest.mark.parametrize("what", CLONES)
-def test_clone(tested: str, folder: str, what: str) -> None:
-    """dnorm-files of a clone asks once which program ./dnorm runs, and not for each file."""
-    own, finder, wanted = CLONES[what]
+@pytest.mark.parametrize("status", [0, 125])
+def test_clone(c_library: str, status: int) -> None:
+    """dnorm-files of a clone lets tools/c-library make the library first, once for all files."""
     os.makedirs("clone/tools")
-    os.symlink(f"{ROOT}/python", "clone/python")
-    shutil.copy(f"{ROOT}/dnorm-files", "clone/dnorm-files")
-    for path, text in [("clone/dnorm", own), ("clone/tools/program", finder)]:
-        write(path, f"#!/bin/sh\nP={shlex.quote(tested)}\n{text}\n")
-        os.chmod(path, 0o755)
-    write("log", "")
-    environment = {it: value for it, value in os.environ.items() if it not in ("DNORM", "DNORM_LIBRARY")}
-    found = run(
-        ["clone/dnorm-files", "check", *[f"{ROOT}/examples/{it}" for it in ("roads.gr", "flow.min")]], env=environment
-    )
-    assert (found.status, dict(Counter(text_of("log").split()))) == (0, wanted), found
+    os.makedirs("clone/c/out/lib")
+    shutil.copytree(f"{ROOT}/python", "clone/python", ignore=shutil.ignore_patterns("__pycache__"))
+    for it in ["dnorm-files", "dnorm-explain"]:
+        shutil.copy(f"{ROOT}/{it}", f"clone/{it}")
+    makes = f"cp {shlex.quote(c_library)}/lib/libdnorm.so.3 clone/c/out/lib"
+    write("clone/tools/c-library", f"#!/bin/sh\necho made >> log\n{makes}\nexit {status}\n")
+    os.chmod("clone/tools/c-library", 0o755)
+    environment = {it: value for it, value in os.environ.items() if it != "DNORM_LIBRARY"}
+    files = [f"{ROOT}/examples/{it}" for it in ("roads.gr", "flow.min")]
+    found = run(["clone/dnorm-files", "check", "-q", *files], env=environment)
+    assert (found.status, text_of("log")) == (4 if status else 0, "made\n"), found
+    assert run(["clone/dnorm-explain"], b"same\n", env=environment) == said("same\n"), "it needs no library"
+    assert text_of("log") == "made\n"
+
+
+def test_program(tested: str) -> None:
+    """Where the program is that dnorm-explain and canon-in-parts run: beside the package, or on an absolute `PATH`."""
+    code = "from dnorm.program import find_program; print(find_program())"
+    os.makedirs("path")
+    os.symlink(tested, "path/dnorm")
+    os.symlink(tested, "dnorm")
+    rows = [("lib/python3/site-packages", "bin"), ("python/src", "."), ("share/dnorm/python", "bin")]
+    for at, (package, place) in enumerate(rows):
+        shutil.copytree(f"{PACKAGE}/dnorm", f"{at}/{package}/dnorm", ignore=shutil.ignore_patterns("__pycache__"))
+        own = {"PYTHONPATH": os.path.abspath(f"{at}/{package}"), "PYTHONDONTWRITEBYTECODE": "1"}
+        for path, line in [(f"/none:{os.getcwd()}/path", f"{os.getcwd()}/path/dnorm\n"), (".:path", ""), ("", "")]:
+            found = run([sys.executable, "-c", code], env={**own, "PATH": path})
+            assert (found.out.decode(), found.status) == (line, 0 if line else 1), f"PATH {path}"
+        os.makedirs(f"{at}/{place}", exist_ok=True)
+        os.symlink(tested, f"{at}/{place}/dnorm")
+        found = run([sys.executable, "-c", code], env={**own, "PATH": f"{os.getcwd()}/path"})
+        assert found == said(f"{os.path.abspath(f'{at}/{place}')}/dnorm\n"), package
+
+
+# Removes what some systems lack, and runs a command of the package.
+LACKING = """
+import os, runpy
+del os.sched_getaffinity
+runpy.run_module("dnorm", run_name="__main__")
+"""
+
+
+def test_lacking() -> None:
+    """The package without a call that other systems lack."""
+    write("b.gr", ROADS)
+    write("x.gr", b"p sp 2 1\na 1 3 5\n")
+    found = run([sys.executable, "-c", LACKING, "check", "b.gr", "x.gr"], env={**os.environ, **ENVIRONMENT})
+    assert (found.out, found.status) == (b"b.gr: accepted sp\nx.gr:2: 13 NodeOutOfRange\n", 2)
+
+
+def test_source() -> None:
+    """What setuptools builds from the files of the source distribution reads texts."""
+    python = python_with("setuptools") or leave_out("setuptools")
+    shutil.copytree(f"{ROOT}/python", "it", ignore=shutil.ignore_patterns("__pycache__"))
+    shutil.copytree(f"{ROOT}/released/c", "it/c")
+    ran = run([str(python), "setup.py", "-q", "build_ext", "--inplace"], cwd="it", env={**os.environ, "CFLAGS": "-O0"})
+    assert ran.status == 0, ran.err
+    write("roads.gr", ROADS)
+    own = {**os.environ, "PYTHONPATH": "it/src", "DNORM_LIBRARY": "", "PYTHONDONTWRITEBYTECODE": "1"}
+    code = "import dnorm; print(dnorm.find_library(), dnorm.check('roads.gr'))"
+    found = run([str(python), "-c", code], env=own).out.decode()
+    assert re.fullmatch(
+        r"\S+/it/src/dnorm/libdnorm\.\S+\.so Checked\(kind='sp', fits=None, forms=\(\)\)\n", found
+    ), found
 
 
 # What pip makes of a command of the package.
 BY_PIP = "import sys; sys.argv[0] = {!r}; from {} import {} as it; sys.exit(it())"
 
 
-def test_commands(tested: str) -> None:
+def test_commands() -> None:
     """The commands of wheels, which do what those of `./install` do."""
     text = text_of(f"{ROOT}/python/pyproject.toml").partition("[project.scripts]\n")[2].partition("\n\n")[0]
     commands = dict(re.findall(r'^([\w-]+) = "(.*)"$', text, re.M))
     assert sorted(commands) == ["canon-in-parts", "dnorm-explain", "dnorm-files"]
-    environment = {**os.environ, **ENVIRONMENT, "DNORM": tested}
-    places = {"canon-in-parts": "scale/canon-in-parts"}
+    environment = {**os.environ, **ENVIRONMENT}
     for name, place in commands.items():
         code = BY_PIP.format(name, *place.split(":"))
         for words in ["--help", "--none", f"check {ROOT}/examples/refused/13-NodeOutOfRange.gr", "--lines 2 -"]:
-            own = run([f"{ROOT}/{places.get(name, name)}", *words.split()], ROADS, env=environment)
+            own = run([f"{ROOT}/{name}", *words.split()], ROADS, env=environment)
             assert run([sys.executable, "-c", code, *words.split()], ROADS, env=environment) == own, f"{name} {words}"
 
 
@@ -137,7 +180,7 @@ def test_page() -> None:
         assert f"\n{wanted} describes the commands.\n" in found, package
 
 
-@pytest.mark.parametrize("name", ["dnorm-files", "dnorm-explain", "scale/canon-in-parts"])
+@pytest.mark.parametrize("name", ["dnorm-files", "dnorm-explain", "canon-in-parts"])
 def test_without_python(folder: str, name: str) -> None:
     os.mkdir("bin")
     for it in ["sh", "dirname", "readlink"]:

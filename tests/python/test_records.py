@@ -20,7 +20,7 @@ from known import CANONICAL, COSTS, ROADS
 from needs import leave_out
 from reading import GRAPHS, canonical, read
 from shared import ROOT, bytes_of, run, text_of, write
-from test_calls import ALL, BOTH, FORMS, READS, fake, told
+from test_calls import BOTH, FORMS, READS, standing_in, told
 from test_folders import make, module
 from test_manifests import ONES, ZEROS
 
@@ -54,7 +54,6 @@ def expected(text: bytes) -> dict[str, object]:
     }  # fmt: skip
 
 
-@BOTH
 def test_of_collection(tested: str) -> None:
     """The records of 300 files that are accepted and of all that are broken, and the last one's counts."""
     remarks = make_collection()
@@ -94,8 +93,7 @@ def test_of_collection(tested: str) -> None:
     assert html.startswith("<p>&lt;dnorm.Collection: ") and html.count("<tr>") == 12, html
 
 
-@BOTH
-def test_forms() -> None:
+def test_forms(stand_in: str) -> None:
     """The forms in which texts are canonical, whichever form the checksums are of; and files that take too long."""
     make({f"set/{at}-{place}.gr": text for at, row in enumerate(CANONICAL) for place, text in enumerate(row)})
     found = set()
@@ -107,9 +105,22 @@ def test_forms() -> None:
             found.add(it.forms)
     assert found == {(), (1,), (2,), (1, 2)}
     make({"one/t.gr": ROADS})
-    (late,) = dnorm.check_folder("one", program=fake("slow", "exec sleep 60"), timeout=0.3).records
+    with standing_in(stand_in, WAIT=1000):
+        (late,) = dnorm.check_folder("one", timeout=0.3).records
     assert str(late.error) == "one/t.gr: took more than 0.3 seconds"
     assert told(lambda: dnorm.check_folder("one", timeout=-1)).startswith("ValueError: timeout is at least 0 ")
+
+
+def test_catalogue() -> None:
+    """bench/catalogue has a row for each file, with its checksum or its refusal."""
+    make({"it/a|b.gr": ROADS, "it/x.gr": b"x\n"})
+    ran = run([f"{ROOT}/bench/catalogue", "it"])
+    head, _, *rows = ran.out.decode().splitlines()
+    assert (head[:8], head[-20:], ran.status) == ("2 files ", ": 1 accepted, 1 not.", 2), head
+    assert rows[2:] == [
+        f"| it/a\\|b.gr | sp | 3 | 7 | 5 | `{dnorm.checksum(ROADS)}` |",
+        "| it/x.gr |  |  |  |  | 1: 1 BadLine |",
+    ]
 
 
 def plain(record: dict[str, Any]) -> dict[str, Any]:
@@ -187,7 +198,7 @@ def on_curve(curve: dnorm.pairs.Curve) -> dict[int, int]:
     return found
 
 
-@ALL
+@BOTH
 def test_curves_and_arcs() -> None:
     """The curves of pairs against all flows and the verdict of the program, the arcs around nodes, and which pairs come
     first."""

@@ -22,7 +22,7 @@ from collection import zstd
 from known import COSTS, FLOWS, ROADS, ROADS_CANON
 from needs import leave_out
 from shared import ROOT, bytes_of, python_with, run, said, write
-from test_calls import ALL, BOTH, COMPRESS, READS, fake, told
+from test_calls import BOTH, COMPRESS, READS, standing_in, told
 from test_folders import ENVIRONMENT, make, module, on_terminal
 
 import dnorm
@@ -312,27 +312,30 @@ def test_names_given() -> None:
     ), "a name without a character"
 
 
-@BOTH
-def test_time_limits() -> None:
-    """Calls and commands that take too long: a program, a FIFO without a writer, and one whose writer waits."""
-    slow = fake("slow", "exec sleep 60")
+def test_time_limits(stand_in: str) -> None:
+    """Calls and commands that take too long: a FIFO without a writer, one whose writer waits, and a slow library."""
     os.mkfifo("pipe.gr")
     os.mkfifo("pipe.gr.gz")
     write("t.gr", ROADS)
     rows: list[tuple[str, Callable[[], object], str]] = [
-        ("a slow program", lambda: dnorm.check("t.gr", program=slow, timeout=0.3), "t.gr"),
-        ("a slow program and bytes", lambda: dnorm.canon(b"c" * 10**6, program=slow, timeout=0.3), "-"),
         ("a FIFO", lambda: dnorm.canon("pipe.gr", timeout=0.3), "pipe.gr"),
         ("a compressed FIFO", lambda: dnorm.checksum("pipe.gr.gz", timeout=0.3), "pipe.gr.gz"),
         ("a second FIFO", lambda: dnorm.compare("t.gr", "pipe.gr", timeout=0.3), "t.gr"),
         ("no time", lambda: dnorm.read("t.gr", timeout=0), "t.gr"),
-        ("differences", lambda: dnorm.differences("t.gr", "t.gr", program=slow, timeout=0.3), "t.gr"),
+        ("differences", lambda: dnorm.differences("t.gr", "pipe.gr", timeout=0.3), "t.gr"),
     ]
     with open("pipe.gr", "rb+", buffering=0), open("pipe.gr.gz", "rb+", buffering=0) as file:
         file.write(gzip.compress(ROADS)[:20])
         waiting = [*rows]
         before(waiting)
     before(rows)
+    write("bad.gr", b"x\n")
+    start = time.monotonic()
+    first = told(lambda: dnorm.compare("bad.gr", "pipe.gr", timeout=20))
+    assert (first, time.monotonic() - start < 10) == ("Refused: bad.gr:1: 1 BadLine", True), "left before a FIFO"
+    with standing_in(stand_in, WAIT=1000):
+        before([("a slow library", lambda: dnorm.check("t.gr", timeout=0.3), "t.gr")])
+        before([("a slow library and bytes", lambda: dnorm.canon(ROADS, timeout=0.3), "-")])
     kept = signal.signal(signal.SIGALRM, ring)
     signal.setitimer(signal.ITIMER_REAL, 0.2)
     try:
@@ -375,22 +378,21 @@ class SlowLibrary:
         self.freed += 1
 
 
-def test_long_steps() -> None:
+def test_long_steps(monkeypatch: pytest.MonkeyPatch) -> None:
     """A step of the library that takes long ends no later than the limit, and frees its memory at its end."""
     library: Any = SlowLibrary()
     start = time.monotonic()
-    with contextlib.ExitStack() as stack:
+    with contextlib.ExitStack() as stack, monkeypatch.context() as patched:
+        patched.setattr(dnorm.library, "library", lambda: library)
         text = Text(ROADS, stack, Limit(0.2, "-"))
-        found = told(lambda: stack.enter_context(held(library, text)))
+        found = told(lambda: stack.enter_context(held(text)))
     took = time.monotonic() - start
     assert (found, library.freed) == ("TimedOut: -: took more than 0.2 seconds", 0), "a long step"
     assert took < 0.6, f"it takes {took} s"
     time.sleep(1)
     assert library.freed == 1, "it is freed once"
-    kept = dnorm.reader.instance
-    setattr(dnorm.reader, "instance", lack_memory)
+    monkeypatch.setattr(dnorm.reader, "instance_by", lack_memory)
     assert told(lambda: dnorm.read(ROADS)) == "Memory: -: 30 Memory", "little memory for columns"
-    setattr(dnorm.reader, "instance", kept)
 
 
 # Limits that no call takes.
@@ -403,7 +405,7 @@ TIMED: list[Callable[[Any], object]] = [
 ]  # fmt: skip
 
 
-@ALL
+@BOTH
 def test_limits() -> None:
     """Limits that are no number of seconds, or one that no clock reaches, and the greatest limit."""
     for call in TIMED:
@@ -513,7 +515,6 @@ LISTED: dict[str, tuple[bytes, str]] = {
 }  # fmt: skip
 
 
-@BOTH
 def test_lists() -> None:
     """Tests `list`: its lines, its JSON objects and its table."""
     make({f"set/{name}": text for name, (text, _) in LISTED.items()})
@@ -598,7 +599,6 @@ COMPARED: list[tuple[bytes, bytes, str, list[str]]] = [
 ]  # fmt: skip
 
 
-@BOTH
 def test_comparisons(tested: str) -> None:
     """Tests `compare` on mistakes of writers, and the repr of what `differences` returns."""
     for left, right, options, lines in COMPARED:

@@ -3,6 +3,7 @@
 import os
 import re
 import shutil
+import sys
 from typing import NamedTuple
 
 from needs import leave_out
@@ -41,6 +42,18 @@ MOST = 300
 FIRST = "6 cases pass, 0 fail (level canon)\n"
 # The folders of what the packages of the library have.
 OF_LIBRARY = ("include/", "lib/", "share/man/man3/", "share/dnorm/rust/")
+# What the package of the Python package has: the commands, with their pages and completions, and these.
+COMMANDS = ["canon-in-parts", "dnorm-explain", "dnorm-files"]
+OF_PYTHON = tuple(f"share/dnorm/{it}" for it in ("ci/", "conformance/", "git/pre-", "python/", "records.json"))
+OF_PYTHON += ("share/dnorm/web/look.js", "share/dnorm/web/report.")
+# Where its modules are, and its links.
+DIST = "usr/lib/python3/dist-packages"
+LINKS = {
+    "usr/share/doc/python3-dnorm": "dnorm",
+    "usr/share/python3-dnorm/dnorm": "../../lib/python3/dist-packages/dnorm",
+    f"{DIST}/dnorm/conformance.py": "../../../../share/dnorm/conformance/run.py",
+    f"{DIST}/dnorm/cases.json": "../../../../share/dnorm/conformance/cases.json",
+}
 # Files that only the package has.
 ADDED = ["share/doc/dnorm/changelog.Debian.gz", "share/doc/dnorm/copyright", "share/lintian/overrides/dnorm"]
 # The files of the Python package, below python/src/, and what it is built with. The file beside it only runs it.
@@ -50,10 +63,30 @@ MODULES = sorted(it.removeprefix("python/src/") for _, it, _ in listed() if it.s
 SUITE = {"dnorm/cases.json": "share/conformance/cases.json", "dnorm/conformance.py": "share/conformance/run.py"}
 
 
+def is_of_python(path: str) -> bool:
+    """Whether the package of the Python package has a file that ./install puts at this path."""
+    is_of_command = any(it in os.path.basename(path) for it in COMMANDS)
+    return is_of_command and not path.startswith("share/doc/") or path.startswith(OF_PYTHON)
+
+
 def in_package(path: str) -> str:
-    """Returns where the package of the program has a file that ./install puts at this path."""
-    moved = path.replace("zsh/site-functions", "zsh/vendor-completions").replace("CHANGELOG.md", "changelog.gz")
-    return f"{moved}.gz" if moved.startswith("share/man/") else moved
+    """Returns where a package has a file that ./install puts at this path."""
+    for own, other in {
+        "zsh/site-functions": "zsh/vendor-completions",
+        "CHANGELOG.md": "changelog.gz",
+        "share/dnorm/python/dnorm/": f"{DIST.removeprefix('usr/')}/dnorm/",
+        "share/dnorm/python/": "share/python3-dnorm/",
+    }.items():
+        path = path.replace(own, other)
+    return f"{path}.gz" if path.startswith("share/man/") else path
+
+
+def make_traps(folder: str) -> None:
+    """Makes a folder with a module of each name that Python itself has a module of. Each ends the process that imports
+    it."""
+    os.makedirs(folder)
+    for it in [*sys.stdlib_module_names, "dnorm", "numpy", "sitecustomize"]:
+        write(f"{folder}/{it}.py", "import os\nos._exit(99)\n")
 
 
 def all_below(folder: str) -> dict[str, int]:
@@ -173,7 +206,8 @@ class Made:
         self.tested, self.folder, self.lacks_aarch64 = tested, folder, ""
         self.version = run([tested, "--version"]).out.decode().split()[1]
         self.info = f"dnorm-{self.version}.buildinfo"
-        self.wheel = f"dnorm-{self.version.replace('-dev', '.dev0')}-py3-none-any.whl"
+        self.stem = f"dnorm-{self.version.replace('-dev', '.dev0')}"
+        self.source = f"{self.stem}.tar.gz"
         self.python_package = f"python3-dnorm_{self.version.replace('-', '~')}-1_all.deb"
         self.ports = [Port(it, self.version, folder) for it in MACHINES]
         self.tree = self.ports[0].tree
@@ -183,7 +217,7 @@ class Made:
         """Returns the names of all files but SHA256SUMS, sorted."""
         own = [
             self.info,
-            self.wheel,
+            self.source,
             self.python_package,
             *(f"dnorm-{self.version}{it}" for it in ["-objects.tar.gz", "-c.tar.gz", ".tgz"]),
             *([f"dnorm-{self.version}-x86_64-windows.exe"] if shutil.which(MINGW) else []),

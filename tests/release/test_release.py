@@ -1,8 +1,8 @@
 """tools/release on the built program, and ./install: the archive's program in an empty root, its conformance suite, two
-releases of one commit in two folders, the packages' paths and fields, the links of all pages, programs that are built
-with the library of the archive, of ./install and of the packages, what is installed and uninstalled, also after a
-failure, by busybox and without /proc, and when no release is made. All of this happens in scratch repositories, which
-have the files that a release is made of.
+releases of one commit in two folders, the packages' paths, fields and commands, the links of all pages, programs that
+are built with the library of the archive, of ./install and of the packages, what is installed and uninstalled, also
+after a failure, by busybox and without /proc, and when no release is made. All of this happens in scratch repositories,
+which have the files that a release is made of.
 
 Of what is made for aarch64, the paths, the fields and the processor of the files are tested, and nothing is proved or
 run: the scratch repositories have what tools/aarch64 has built, and scripts in the place of tools/aarch64 and
@@ -22,11 +22,15 @@ import pytest
 from builds import by_cmake
 from known import CANONICAL, ROADS, ROADS_CANON, rows
 from needs import leave_out, need, pass_over
-from scratch import ADDED, FIRST, FOR_AARCH64, MACHINES, MODULES, OF_LIBRARY, OUT, RELEASED, SCRIPTS, SUITE, TIME, WHO
-from scratch import Made, Place, Port, all_below, all_listed, files_of, in_package, tool_of
+from scratch import ADDED, DIST, FIRST, FOR_AARCH64, LINKS, MACHINES, MODULES, OF_LIBRARY, OUT, RELEASED, SCRIPTS
+from scratch import SUITE, TIME, WHO, Made, Place, Port
+from scratch import all_below, all_listed, files_of, in_package, is_of_python, make_traps, tool_of
 from shared import ROOT, Answer, bytes_of, links_listed, listed, python_with, run, said, text_of, write
 
 pytestmark = [pytest.mark.whole, pytest.mark.xdist_group("release")]
+# What the package for Python has besides modules and the suite.
+SHOWN = {f"dnorm/{it}" for it in ["FILES.md", "look.js", "report.html", "report.js"]}
+MAP = text_of(f"{ROOT}/c/dnorm.map")
 
 
 @pytest.fixture(scope="module")
@@ -241,7 +245,7 @@ def test_runs_of_archive(made: Made, two: Place) -> None:
     uses_library(made, made.tree)
     words = [f"{made.tree}/share/conformance/run.py", "--rule", "first", f"{made.tree}/dnorm"]
     assert run(words) == said(FIRST)
-    parts(made, f"{made.tree}/scale/canon-in-parts")
+    parts(made, f"{made.tree}/canon-in-parts")
     assert files_of(all_below(made.tree)) == archived()
     assert [it for it in os.listdir(f"{made.tree}/python/src") if it.endswith(".py")] == ["__main__.py"]
     links(made, made.tree)
@@ -298,101 +302,102 @@ def by_root(made: Made, number: int, words: list[str], given: bytes) -> Answer:
     return run([f"/{made.ports[0].name}/dnorm", *words], given, preexec_fn=enter)
 
 
-def test_python_wheel(made: Made, two: Place) -> None:
-    """The wheel: its files, their modes and times, and a run of it as it is."""
-    path = f"{made.one.dist}/{made.wheel}"
-    with zipfile.ZipFile(path) as wheel:
-        infos = wheel.infolist()
-        metadata = wheel.read(f"{made.wheel.removesuffix('-py3-none-any.whl')}.dist-info/METADATA").decode()
-    names = [it.filename for it in infos]
-    shown = ["FILES.md", "look.js", "report.html", "report.js"]
-    modules = sorted([*MODULES, *SUITE, *(f"dnorm/{it}" for it in shown)])
-    assert sorted(it for it in names if it.startswith("dnorm/")) == modules, "the wheel's modules"
-    assert {it.external_attr >> 16 & 0o777 for it in infos if it.filename in modules} == {0o644}, "its modes"
-    assert {it.date_time for it in infos} == {time.gmtime(TIME - 1)[:6]}, "its times"
-    assert "Requires-Dist" not in metadata, f"it needs only Python: {metadata}"
-    for it in [made.folder, ROOT]:
-        assert it.encode() not in bytes_of(path), f"{it} is not in the wheel"
-    with zipfile.ZipFile(path) as wheel:
-        for name, place in SUITE.items():
-            assert wheel.read(name) == bytes_of(f"{made.tree}/{place}"), f"{name} is {place}"
-    runs_module(made, path, made.tested)
-
-
-def test_python_binary(made: Made, port: Port) -> None:
-    """The wheel with the program of an architecture: that it has the files of the other wheel, and the archive's
+def test_python_wheel(made: Made, port: Port) -> None:
+    """The wheel for an architecture: its files, their modes and times, what it is for, and that it has the archive's
     program and library."""
-    stem = made.wheel.removesuffix("-py3-none-any.whl")
-    trees = []
-    for name in [made.wheel, port.wheel]:
-        to = f"{made.folder}/wheel-{name}"
-        python = python_with("setuptools", "wheel") or sys.executable
-        # This compares the sum of each file with RECORD.
-        assert run([python, "-m", "wheel", "unpack", "-d", to, f"{made.one.dist}/{name}"]).status == 0, name
-        below = f"{to}/{stem}"
-        trees.append({it: bytes_of(f"{below}/{it}") for it in all_below(below) if os.path.isfile(f"{below}/{it}")})
-    wanted, found = trees
-    script, info = f"{stem}.data/scripts/dnorm", f"{stem}.dist-info"
-    added = {script: "dnorm", "dnorm/libdnorm.so.3": "lib/libdnorm.so.3"}
-    for it, place in added.items():
-        wanted[it] = bytes_of(f"{port.tree}/{place}")
+    path = f"{made.one.dist}/{port.wheel}"
+    python = python_with("setuptools", "wheel") or sys.executable
+    # This compares the sum of each file with RECORD.
+    assert run([python, "-m", "wheel", "unpack", "-d", f"{made.folder}/wheel-{port.machine.name}", path]).status == 0
+    with zipfile.ZipFile(path) as wheel:
+        infos = {it.filename: it for it in wheel.infolist()}
+        texts = {it: wheel.read(it) for it in infos}
+    script, library = f"{made.stem}.data/scripts/dnorm", "dnorm/libdnorm.so.3"
+    modules = {*MODULES, *SUITE, *SHOWN, library}
+    assert {it for it in texts if not it.startswith(f"{made.stem}.dist-info/")} == {*modules, script}, "its files"
+    for name, place in {**SUITE, script: "dnorm", library: "lib/libdnorm.so.3"}.items():
+        assert texts[name] == bytes_of(f"{port.tree}/{place}"), f"{name} is {place}"
+    for it in [made.folder, ROOT]:
+        assert not any(it.encode() in texts[name] for name in {*texts} - {script, library}), f"{it} is not in the wheel"
+    told = texts[f"{made.stem}.dist-info/WHEEL"].decode()
     tags = "".join(f"Tag: py3-none-{it}\n" for it in port.machine.platforms)
-    bound = wanted[f"{info}/WHEEL"].decode().replace("Purelib: true", "Purelib: false")
-    wanted[f"{info}/WHEEL"] = bound.replace("Tag: py3-none-any\n", tags).encode()
-    del wanted[f"{info}/RECORD"], found[f"{info}/RECORD"]
-    assert found == wanted, "its files"
+    assert "Root-Is-Purelib: false\n" in told and tags in told and told.count("Tag: ") == tags.count("Tag: "), told
+    assert b"Requires-Dist" not in texts[f"{made.stem}.dist-info/METADATA"], "it needs only Python"
     # manylinux2014 has the C library in version 2.17.
     least = [int(it) for it in least_libc(f"{port.tree}/lib/libdnorm.so.3").split(".")]
     assert least <= [2, 17] and all(it.startswith(("manylinux2014_", "musllinux_")) for it in port.machine.platforms)
-    with zipfile.ZipFile(f"{made.one.dist}/{port.wheel}") as wheel:
-        infos = {it.filename: it for it in wheel.infolist()}
     assert {it.date_time for it in infos.values()} == {time.gmtime(TIME - 1)[:6]}, "its times"
     assert {infos.pop(script).external_attr >> 16} == {0o100755}, "the mode of its program"
     assert {it.external_attr >> 16 & 0o111 for it in infos.values()} == {0}, "nothing else is run"
 
 
+def test_python_source(made: Made, two: Place) -> None:
+    """The source distribution: its files, and that it has the C file of the release."""
+    with tarfile.open(f"{made.one.dist}/{made.source}") as tar:
+        members = {it.name.removeprefix(f"{made.stem}/"): it for it in tar.getmembers() if it.isfile()}
+        one = tar.extractfile(members["c/libdnorm.c"])
+        with tarfile.open(f"{made.one.dist}/dnorm-{made.version}-c.tar.gz") as beside:
+            other = beside.extractfile(f"dnorm-{made.version}-c/libdnorm.c")
+            assert one and other and one.read() == other.read()
+    found = {it.removeprefix("src/") for it in members if it.startswith("src/dnorm/")}
+    assert found == {*MODULES, *SUITE, *SHOWN}, "its package"
+    wanted = {"MANIFEST.in", "PKG-INFO", "README.md", "THIRD-PARTY", "c/dnorm.h", "c/libdnorm.c"}
+    wanted |= {"pyproject.toml", "setup.cfg", "setup.py"}
+    assert {it for it in members if not it.startswith("src/")} == wanted, "its other files"
+    assert {it.mtime for it in members.values()} == {TIME}, "its times"
+
+
 def test_by_pip(made: Made, two: Place) -> None:
-    """What pip installs from the wheels into environments that are not activated, and uninstalls: from one wheel
-    the program and the library come, too; the other one finds a program by $DNORM."""
-    python = python_with("pip", "venv")
+    """What pip installs from the wheel and from the source distribution into environments that are not activated, and
+    uninstalls: the wheel brings the program, and the other one compiles the library. That answers nothing here, since
+    scratch repositories have a C file of empty functions."""
+    # setuptools fails after pip.
+    python = python_with("setuptools", "pip", "venv", "wheel")
     if not python:
         leave_out("pip")
         return
     write(f"{made.folder}/roads.gr", ROADS)
-    for wheel, has_program in [(made.ports[0].wheel, True), (made.wheel, False)]:
+    for file, has_program in [(made.ports[0].wheel, True), (made.source, False)]:
         place = f"{made.folder}/environment{has_program}"
-        assert run([python, "-m", "venv", "--without-pip", place]) == said(), "an environment"
+        assert run([python, "-m", "venv", "--without-pip", "--system-site-packages", place]) == said(), "an environment"
         pip = [python, "-m", "pip", "--python", f"{place}/bin/python", "--disable-pip-version-check"]
         before = all_below(f"{place}/bin")
-        found = run([*pip, "install", "--quiet", "--no-index", "--no-deps", f"{made.one.dist}/{wheel}"])
-        assert (found.out, found.status) == (b"", 0), f"pip install {wheel}"
+        words = ["install", "--quiet", "--no-index", "--no-deps", "--no-build-isolation", f"{made.one.dist}/{file}"]
+        found = run([*pip, *words], limit=None)
+        assert (found.out, found.status) == (b"", 0), f"pip install {file}"
         commands = ["canon-in-parts", *["dnorm"] * has_program, "dnorm-explain", "dnorm-files"]
         assert sorted(all_below(f"{place}/bin").keys() - before) == commands, "its commands"
-        own = {"PATH": "/none"} | ({} if has_program else {"DNORM": made.tested})
-        code = "import dnorm; print(dnorm.version(), dnorm.find_program(), dnorm.find_library() or '')"
-        program = f"{place}/bin/dnorm" if has_program else made.tested
-        library = next(iter(glob.glob(f"{place}/lib/python*/site-packages/dnorm/libdnorm.so.3")), "")
-        assert bool(library) == has_program, f"the library of {wheel}: {library}"
-        ran = run([f"{place}/bin/python", "-c", code], env=own)
-        assert ran == said(f"{made.version} {program} {library}\n"), "the program and the library"
-        for command in [[f"{place}/bin/dnorm-files"], [f"{place}/bin/python", "-m", "dnorm"]]:
-            found = run([*command, "check", "roads.gr"], cwd=made.folder, env=own)
-            assert found == said("roads.gr: accepted sp\n", "1 accepted, 0 refused, 0 failed\n"), f"{command}"
-        (page,) = glob.glob(f"{place}/lib/python*/site-packages/dnorm/FILES.md")
-        assert f"{page} describes the commands" in run([f"{place}/bin/dnorm-files", "--help"], env=own).out.decode()
-        for name in ["canon-in-parts", "dnorm-explain"]:
-            assert run([f"{place}/bin/{name}", "--help"], env=own).status == 0, name
+        runs_installed(made, place, has_program)
         found = run([*pip, "uninstall", "--quiet", "--yes", "dnorm"])
         assert (found.status, all_below(f"{place}/bin")) == (0, before), "pip uninstall"
 
 
-def runs_module(made: Made, where: str, tested: str) -> None:
-    """A run of the Python package in this folder or wheel."""
+def runs_installed(made: Made, place: str, has_program: bool) -> None:
+    """Runs of what pip has installed into an environment."""
+    own = {"PATH": "/none"}
+    (library,) = glob.glob(f"{place}/lib/python*/site-packages/dnorm/libdnorm*.so*")
+    ran = run([f"{place}/bin/python", "-c", "import dnorm; print(dnorm.find_library())"], env=own)
+    assert ran == said(f"{library}\n"), "the library"
+    for command in [[f"{place}/bin/dnorm-files"], [f"{place}/bin/python", "-m", "dnorm"]]:
+        found = run([*command, "check", "roads.gr"], cwd=made.folder, env=own)
+        accepted = said("roads.gr: accepted sp\n", "1 accepted, 0 refused, 0 failed\n")
+        assert found == accepted or not has_program and not found.status, f"{command}: {found}"
+    (page,) = glob.glob(f"{place}/lib/python*/site-packages/dnorm/FILES.md")
+    assert f"{page} describes the commands" in run([f"{place}/bin/dnorm-files", "--help"], env=own).out.decode()
+    found = run([f"{place}/bin/dnorm-explain", "canon", "roads.gr"], cwd=made.folder, env=own)
+    none = "dnorm: cannot be run (there is no such program on PATH)\n"
+    assert found == (said(ROADS_CANON) if has_program else said("", none, 4)), "dnorm-explain runs the program"
+    assert run([f"{place}/bin/canon-in-parts", "--help"], env=own).status == 0
+
+
+def runs_module(made: Made, where: str) -> None:
+    """A run of the Python package in this folder, by the archive's library."""
     write(f"{made.folder}/roads.gr", ROADS)
-    environment = {**os.environ, "PYTHONPATH": where, "DNORM": tested, "PYTHONDONTWRITEBYTECODE": "1"}
+    environment = {**os.environ, "PYTHONPATH": where, "PYTHONDONTWRITEBYTECODE": "1"}
+    environment["DNORM_LIBRARY"] = f"{made.tree}/lib/libdnorm.so.3"
     found = run([sys.executable, "-m", "dnorm", "check", "roads.gr"], cwd=made.folder, env=environment)
     assert found == said("roads.gr: accepted sp\n", "1 accepted, 0 refused, 0 failed\n"), f"check by {where}"
-    words = [sys.executable, "-m", "dnorm.conformance", "--rule", "first", tested]
+    words = [sys.executable, "-m", "dnorm.conformance", "--rule", "first", made.tested]
     found = run(words, cwd=made.folder, env=environment)
     assert found == said(FIRST), f"conformance by {where}"
 
@@ -415,36 +420,91 @@ def package_of(made: Made, name: str, wanted: dict[str, str]) -> str:
 
 
 def test_python_package(made: Made, two: Place) -> None:
-    """The package of the Python package: its paths, its fields, and that it has the wheel's files."""
+    """The package of the Python package: its paths, modes and fields, and that it has the wheel's files once."""
     version = f"{made.version.replace('-', '~')}-1"
     fields = {"Package": "python3-dnorm", "Architecture": "all", "Source": "dnorm"}
-    fields |= {"Depends": f"dnorm (= {version}), python3 (>= 3.9)", "Recommends": f"libdnorm3 (= {version})"}
+    fields |= {"Depends": f"dnorm (= {version}), libdnorm3 (= {version}), python3 (>= 3.9)"}
+    fields |= dict.fromkeys(["Breaks", "Replaces"], "dnorm (<< 3.0.0~)")
     to = package_of(made, made.python_package, fields)
-    modules = f"{to}/usr/lib/python3/dist-packages"
-    with zipfile.ZipFile(f"{made.one.dist}/{made.wheel}") as wheel:
-        texts = {it: wheel.read(it) for it in wheel.namelist() if not it.endswith("/RECORD")}
+    with zipfile.ZipFile(f"{made.one.dist}/{made.ports[0].wheel}") as wheel:
+        names = [it for it in wheel.namelist() if not it.endswith(("/RECORD", "/WHEEL", "/dnorm", "/libdnorm.so.3"))]
+        texts = {f"{DIST}/{it}": wheel.read(it) for it in names}
     info = next(os.path.dirname(it) for it in texts if it.endswith("/METADATA"))
     texts[f"{info}/INSTALLER"] = b"dpkg\n"
-    wanted = {f"usr/lib/python3/dist-packages/{it}" for it in texts}
-    wanted |= {"usr/share/lintian/overrides/python3-dnorm", "usr/share/doc/python3-dnorm"}
-    found = {os.path.relpath(f"{at}/{it}", to) for at, _, names in os.walk(to) for it in names}
-    assert found == wanted, "the files of python3-dnorm"
-    assert {it: bytes_of(f"{modules}/{it}") for it in texts} == texts, "its modules"
-    assert os.readlink(f"{to}/usr/share/doc/python3-dnorm") == "dnorm", "its documents"
+    # Its commands read these where their documents and the files for browsers are.
+    elsewhere = {it: texts.pop(f"{DIST}/dnorm/{it}") for it in ["FILES.md", "look.js", "report.html", "report.js"]}
+    wanted = {f"usr/{in_package(it)}": mode for mode, _, it in listed() if is_of_python(it)}
+    wanted |= dict.fromkeys([f"{info}/WHEEL", *(it for it in texts if it.startswith(f"{info}/"))], 0o644)
+    added = {"usr/share/lintian/overrides/python3-dnorm": 0o644}
+    added["usr/share/python3/runtime.d/python3-dnorm.rtupdate"] = 0o755
+    names = [os.path.relpath(f"{at}/{it}", to) for at, folders, files in os.walk(to) for it in [*folders, *files]]
+    found = {it: os.readlink(f"{to}/{it}") for it in names if os.path.islink(f"{to}/{it}")}
+    assert found == LINKS, "its links"
+    modes = files_of({it: os.lstat(f"{to}/{it}").st_mode & 0o7777 for it in names})
+    assert {it: modes[it] for it in modes.keys() - found} == wanted | added, "the files of python3-dnorm"
+    assert {it: bytes_of(f"{to}/{it}") for it in texts} == texts, "its modules"
+    for it in ["look.js", "report.html", "report.js"]:
+        assert bytes_of(f"{to}/usr/share/dnorm/web/{it}") == elsewhere[it], it
     scripts = {it: os.stat(f"{to}-control/{it}").st_mode & 0o777 for it in ["postinst", "prerm"]}
     assert scripts == dict.fromkeys(scripts, 0o755), "its scripts"
-    packaged = f"{unpacked(made, made.ports[0])}/usr/bin/dnorm"
-    runs_module(made, modules, packaged)
-    # The package of the program has the command.
-    ran = run([f"{packaged}-files", "check", "roads.gr"], cwd=made.folder, env={"PATH": os.environ["PATH"]})
-    assert ran == said("roads.gr: accepted sp\n", "1 accepted, 0 refused, 0 failed\n"), "dnorm-files"
+
+
+def together(made: Made) -> str:
+    """Unpacks the packages for this machine into one root, if that was not done before, and returns the root. No file
+    is in two of them."""
+    to, port = f"{made.folder}/together", made.ports[0]
+    if not os.path.exists(to):
+        rows = []
+        for it in [port.package, port.shared, port.headers, made.python_package]:
+            path = f"{made.one.dist}/{it}"
+            assert run(["dpkg-deb", "-x", path, to]) == said(), f"dpkg-deb -x {it}"
+            rows += [it.split(maxsplit=5)[5] for it in run(["dpkg-deb", "-c", path]).out.decode().splitlines()]
+        files = [it.partition(" -> ")[0] for it in rows if not it.endswith("/")]
+        assert sorted(files) == sorted(set(files)), "files of two packages"
+    return to
+
+
+def test_commands_of_packages(made: Made, two: Place) -> None:
+    """All packages together in one root: the commands run, and nothing of the current folder does. They have the
+    program, the library and the pages of the root."""
+    to = together(made)
+    modules, program = f"{to}/{DIST}", f"{to}/usr/bin/dnorm"
+    assert text_of(f"{to}/usr/share/doc/python3-dnorm/copyright"), "the documents of python3-dnorm"
+    runs_module(made, modules)
+    code = "import dnorm; print(dnorm.__file__, dnorm.find_library())"
+    own = {"PYTHONPATH": modules, "PYTHONDONTWRITEBYTECODE": "1"}
+    library = f"{to}/usr/lib/{made.ports[0].machine.name}-linux-gnu/libdnorm.so.3"
+    assert run([sys.executable, "-c", code], env=own) == said(f"{modules}/dnorm/__init__.py {library}\n")
+    at = f"{made.folder}/traps"
+    make_traps(at)
+    for name, text in {"roads": ROADS, "other": b"p sp 2 1\na 1 2 5\n", "bad": b"p sp 2 1\na 1 3 5\n"}.items():
+        write(f"{at}/{name}.gr", text)
+    for own in [{"PATH": os.environ["PATH"]}, {"PATH": f".:{os.environ['PATH']}:", "PYTHONPATH": ".:/none:"}]:
+        runs_commands(to, at, own)
+    words = [f"{to}/usr/share/dnorm/conformance/run.py", "--rule", "first", program]
+    assert run(words, cwd=at, env={"PATH": os.environ["PATH"]}) == said(FIRST), "the conformance suite"
+
+
+def runs_commands(root: str, at: str, own: dict[str, str]) -> None:
+    """The commands of this root, in a folder with files that have the names of modules."""
+    bin_ = f"{root}/usr/bin"
+    found = run([f"{bin_}/dnorm-files", "check", "roads.gr"], cwd=at, env=own)
+    assert found == said("roads.gr: accepted sp\n", "1 accepted, 0 refused, 0 failed\n"), "dnorm-files check"
+    told = run([f"{bin_}/dnorm-files", "--help"], cwd=at, env=own).out.decode()
+    assert f"{root}/usr/share/doc/dnorm/docs/FILES.md describes the commands" in told, "dnorm-files --help"
+    page = run([f"{bin_}/dnorm-files", "look", "roads.gr", "other.gr"], cwd=at, env=own).out
+    assert bytes_of(f"{root}/usr/share/dnorm/web/look.js") in page, "dnorm-files look"
+    found = run([f"{bin_}/dnorm-explain", "check", "bad.gr"], cwd=at, env=own)
+    assert b"line 2: a 1 3 5" in found.err and found.status == 2, f"dnorm-explain: {found}"
+    found = run([f"{bin_}/canon-in-parts", "--lines", "2", "roads.gr"], cwd=at, env=own)
+    assert found == said(ROADS_CANON.decode()), "canon-in-parts"
 
 
 def unpacked(made: Made, port: Port) -> str:
     """Unpacks the package of the program for an architecture."""
     fields = {"Package": "dnorm", "Architecture": port.machine.debian, "Maintainer": f"{WHO['NAME']} <{WHO['EMAIL']}>"}
     # For python3-dnorm, also where it is for another architecture than the machine's.
-    fields |= {"Multi-Arch": "foreign", "Suggests": "python3 (>= 3.9), libdnorm-dev"}
+    fields |= {"Multi-Arch": "foreign", "Suggests": "python3-dnorm, libdnorm-dev"}
     return package_of(made, port.package, fields)
 
 
@@ -452,7 +512,8 @@ def test_package(made: Made, port: Port) -> None:
     """The package of an architecture: its paths and its program. It depends on nothing, and all architectures have the
     same files but for the program."""
     to, sums = unpacked(made, port), []
-    wanted = {f"usr/{in_package(it)}": mode for mode, _, it in listed() if not it.startswith(OF_LIBRARY)}
+    own = [(mode, it) for mode, _, it in listed() if not it.startswith(OF_LIBRARY) and not is_of_python(it)]
+    wanted = {f"usr/{in_package(it)}": mode for mode, it in own}
     assert files_of(all_below(to)) == wanted | {f"usr/{it}": 0o644 for it in ADDED}, "the package's files"
     same = bytes_of(f"{to}/usr/bin/dnorm") == bytes_of(f"{port.tree}/dnorm")
     assert same, "the package has the archive's program"
@@ -465,9 +526,8 @@ def test_package(made: Made, port: Port) -> None:
 def test_runs_of_packages(made: Made, two: Place) -> None:
     """What the packages for this machine have runs, and programs are built with the library's, by pkg-config and by
     CMake."""
-    to = unpacked(made, made.ports[0])
-    parts(made, f"{to}/usr/bin/canon-in-parts")
-    links(made, f"{to}/usr/share/doc/dnorm")
+    parts(made, f"{together(made)}/usr/bin/canon-in-parts")
+    links(made, f"{unpacked(made, made.ports[0])}/usr/share/doc/dnorm")
     to = library_below(made, made.ports[0])
     uses_library(made, f"{to}/usr", to)
     by_cmake(f"{made.folder}/by cmake", f"{to}/usr")
@@ -504,6 +564,9 @@ def test_packages_of_library(made: Made, port: Port) -> None:
     }
     for it, line in names.items():
         assert text_of(f"{made.folder}/package-{port.shared}-control/{it}").splitlines()[-1] == line, it
+    exported = [f" {it}@DNORM_3.0 3.0.0~" for it in sorted(re.findall(r"^ +(dnorm_\w+);", MAP, re.M))]
+    table = text_of(f"{made.folder}/package-{port.shared}-control/symbols").splitlines()
+    assert table[-len(exported) :] == exported and len(exported) == 14, "symbols"
     found = {os.path.relpath(f"{at}/{it}", to) for at, _, files in os.walk(to, followlinks=True) for it in files}
     assert found == wanted, "the files of both packages"
     # Code has brackets, too.

@@ -15,6 +15,7 @@ import resource
 import shutil
 import signal
 import subprocess
+import sys
 import time
 from collections.abc import Callable
 from typing import Any
@@ -461,6 +462,48 @@ def test_library(clone: Clone) -> None:
     line = "dnorm: released/ has other bytes than SHA256SUMS says: git restores it\n"
     assert clone.run("tools/c-library") == said("", line, 125), "tools/c-library, another byte"
     assert clone.run("tools/c-library", "--proved") == said("", NO_RT, 125), "--proved without the kit"
+
+
+def test_library_in_use(clone: Clone) -> None:
+    """Several calls of tools/c-library at once, and a library that a program has open stays whole."""
+    calls = [[f"{clone.folder}/tools/c-library"] for _ in range(6)]
+    running = [subprocess.Popen(it, env={**os.environ, "PATH": WITHOUT_RT}, stderr=subprocess.PIPE) for it in calls]
+    assert [(it.communicate()[1], it.returncode) for it in running] == [(b"", 0)] * 6
+    library = f"{clone.folder}/c/out/lib/libdnorm.so.3"
+    with open(library, "rb", buffering=0) as file:
+        clone.pack("libdnorm.so.3", b"another")
+        clone.sum()
+        assert clone.run("tools/c-library") == said()
+        assert (file.read(), bytes_of(library)) == (b"libdnorm.so.3", b"another")
+
+
+# Runs tools/c-library of this folder as on a machine with another processor.
+ELSEWHERE = """
+import platform, runpy, sys
+platform.machine = lambda: "riscv64"
+sys.path.insert(0, sys.argv[1] + "/tools")
+sys.argv = [sys.argv[1] + "/tools/c-library"]
+runpy.run_path(sys.argv[0], run_name="__main__")
+"""
+
+
+def test_other_processor(clone: Clone) -> None:
+    """tools/c-library compiles the released C file for a processor that has no released library."""
+    need("cc")
+    clone.write("released/c/libdnorm.c", "#ifdef DNORM_SHARED\nint dnorm_begin(void) { return 7; }\n#endif\n")
+    for it in ["wasm", "c-file", *(f"wasm_{it}.py" for it in ("module", "operations", "to_c"))]:
+        clone.write(f"tools/{it}", "")
+    for it in ["head", "tail"]:
+        clone.write(f"c/file-{it}.c", "")
+    clone.tell(f"sources of the c-file: {clone.run('tools/source-sum', 'c-file').out.decode()}")
+    told = "dnorm: compiling the library, which is released as a C file\n"
+    assert run([sys.executable, "-c", ELSEWHERE, clone.folder]) == said("", told, 0)
+    use = "import ctypes, sys; print(ctypes.CDLL(sys.argv[1]).dnorm_begin())"
+    assert run([sys.executable, "-c", use, f"{clone.folder}/c/out/lib/libdnorm.so.3"]) == said("7\n")
+    assert b"libdnorm.o" in bytes_of(f"{clone.folder}/c/out/lib/libdnorm.a")
+    clone.write("c/file-tail.c", "// another\n")
+    found = run([sys.executable, "-c", ELSEWHERE, clone.folder], env={**os.environ, "PATH": WITHOUT_RT})
+    assert found == said("", NO_RT.replace("; released/ has the proved program 1.0", ""), 125), "other sources"
 
 
 # What ./check calls, each of which stands for itself in a scratch copy: it notes its process, and passes one check. The

@@ -155,17 +155,39 @@ def test_folder(browser: Any) -> None:
     assert browser.js("return document.querySelectorAll('[aria-sort=ascending]').length") == 1
 
 
+def test_longest_path() -> None:
+    """A file whose path has 4,095 bytes, the most that the system takes, and a folder beyond."""
+    here = os.getcwd()
+    os.mkdir("set")
+    os.chdir("set")
+    for _ in range(16):
+        os.mkdir("d" * 239)
+        os.chdir("d" * 239)
+    name = "x" * (4095 - len("set/" + 16 * ("d" * 239 + "/")) - 3) + ".gr"
+    write(name, b"p sp 7 0\n")
+    os.mkdir("e" * 255)
+    os.chdir(here)
+    page = looked("set", status=4)
+    assert "1 accepted, 0 refused, 1 failed" in Shown(page).text and "31 Read (File name too long)" in page
+    assert f"{'d' * 239}/{name}" in page
+
+
 def test_since() -> None:
     """What has changed since a manifest, and collections without files."""
-    make({f"set/{it}.gr": b"p sp %d 0\n" % at for at, it in enumerate("abcd")})
+    make({f"set/{it}.gr": b"p sp %d 0\n" % at for at, it in enumerate("abcde")})
     assert run([f"{ROOT}/dnorm-files", "manifest", "--output", "old", "set"]).status == 0
     os.rename("set/a.gr", "set/moved.gr")
     os.remove("set/b.gr")
     make({"set/c.gr": b"p sp 77 0\n", "set/new.gr": b"p sp 78 0\n"})
+    make({"set/e.gr": b"p sp 4 1\n"})
+    text = Shown(looked("set", "--since", "old", status=2)).text
+    assert "not accepted now: 1set/e.gr" in text and "gone: 1set/b.gr" in text, text
+    make({"set/e.gr": b"p sp 4 0\n"})
     page = looked("set", "--since", "old")
     text = Shown(page).text
+    assert "not accepted now" not in text
     for it in [
-        "the same 1",
+        "the same 2",
         "changed: 1",
         "set/c.gr",
         "renamed: 1",

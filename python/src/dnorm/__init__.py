@@ -1,4 +1,4 @@
-"""Checks, compares and canonicalises DIMACS network instances by the program dnorm.
+"""Checks, compares and canonicalises DIMACS network instances.
 
     >>> import dnorm
     >>> dnorm.check("roads.gr")
@@ -6,18 +6,15 @@
     >>> dnorm.compare("flow.min", "flow-cheaper.min")
     Difference(what='cost', left=4, right=3, node=None, pair=(1, 2), amount=5, place=None)
 
-`check`, `canon`, `canon_to`, `checksum`, `compare` and `read` each run the program once, and `differences`
-several times. They open each file once. They take a file as a path, as bytes, or as a binary stream, which they read
-from where it is to its end, and do not close. A path that ends in `.gz`, `.bz2` or `.xz` is decompressed while the
-program reads it, also one that ends in `.zst` if Python or the module `zstandard` can; other compressions are errors.
-`write` writes what `read` returns, and what `from_arrays`, `from_networkx` and `from_scipy` make; such an instance is a
-file as well. The keyword `program` says where the program is: by default `$DNORM` or, if that is not set, the one that
-pip installed with this package, or else the first `dnorm` on `PATH`. `read` and `differences` use the library for C in
-its place where that is beside it, unless `$DNORM_LIBRARY` is `none`. With the keyword `timeout`, a call that takes more
-seconds raises `TimedOut`.
+All calls read texts by the library libdnorm, which comes with the package; `$DNORM_LIBRARY` can name another one. They
+open each file once. They take a file as a path, as bytes, or as a binary stream, which they read from where it is to
+its end, and do not close. A path that ends in `.gz`, `.bz2` or `.xz` is decompressed meanwhile, also one that ends in
+`.zst` if Python or the module `zstandard` can; other compressions are errors. `write` writes what `read` returns, and
+what `from_arrays`, `from_networkx` and `from_scipy` make; such an instance is a file as well. With the keyword
+`timeout`, a call that takes more seconds raises `TimedOut`.
 
-A text that the program refuses raises `Refused`, and any other failure another `DnormError`. If reading a text fails,
-or a compressed file is corrupt, no call returns an answer for it.
+A text that is not accepted raises `Refused`, and any other failure another `DnormError`. If reading a text fails, or a
+compressed file is corrupt, no call returns an answer for it.
 
 `check_folder` checks all texts of a folder, and `read_manifest` and `manifest_changes` tell how checksums have changed.
 `dnorm-files`, or `python3 -m dnorm`, does more with folders."""
@@ -26,7 +23,7 @@ from . import alone  # noqa: F401
 from .answers import Checked, Difference, Same
 from .calls import canon, canon_to, check, checksum, compare, write
 from .columns import Column
-from .errors import DnormError, Endless, Killed, Memory, NoProgram, Read, Refused, TimedOut, Unexpected, Write
+from .errors import DnormError, Endless, Memory, NoLibrary, Read, Refused, TimedOut, Write
 from .files import File, Readable, Target, Writable
 from .folders import Collection, check_folder
 from .instances import Co, Graph, Instance, Max, Min, P2p, Sp, Ss, Star, from_arrays
@@ -35,7 +32,6 @@ from .lines import ArcLines
 from .manifests import Changes, Manifest, manifest_changes, read_manifest
 from .networks import from_networkx, from_scipy
 from .pairs import PairDifference
-from .program import find_program, version
 from .reader import read
 from .records import Contents, Range, Record
 from .refusals import REFUSALS
@@ -46,9 +42,9 @@ __version__ = "3.0.0.dev0"
 
 __all__ = [
     "ArcLines", "Changes", "Checked", "Co", "Collection", "Column", "Contents", "Difference", "Differences",
-    "DnormError", "Endless", "File", "Graph", "Instance", "Killed", "Manifest", "Max", "Memory", "Min", "NoProgram",
-    "P2p", "PairDifference", "REFUSALS", "Range", "Read", "Readable", "Record", "Refused", "Same", "Sp", "Ss", "Star",
-    "Target", "TimedOut", "Unexpected", "Writable", "Write", "canon", "canon_to", "check", "check_folder", "checksum",
-    "compare", "differences", "find_library", "find_program", "from_arrays", "from_networkx", "from_scipy",
-    "manifest_changes", "read", "read_manifest", "version", "write",
+    "DnormError", "Endless", "File", "Graph", "Instance", "Manifest", "Max", "Memory", "Min", "NoLibrary", "P2p",
+    "PairDifference", "REFUSALS", "Range", "Read", "Readable", "Record", "Refused", "Same", "Sp", "Ss", "Star",
+    "Target", "TimedOut", "Writable", "Write", "canon", "canon_to", "check", "check_folder", "checksum", "compare",
+    "differences", "find_library", "from_arrays", "from_networkx", "from_scipy", "manifest_changes", "read",
+    "read_manifest", "write",
 ]  # fmt: skip

@@ -1,19 +1,15 @@
-"""What the calls return, and how it is read from the lines of the program."""
+"""What the calls return."""
 
 from __future__ import annotations
 
 import html
-import re
 from collections.abc import Iterable, Sequence
 from dataclasses import dataclass
 from itertools import islice
-from typing import TYPE_CHECKING, Literal, Optional, Union, cast
+from typing import TYPE_CHECKING, Literal, Optional, Union
 
-KIND, NUMBER = "min|max|sp|ss|p2p|co", "-?[0-9]+"
-# A canonical form, and what `check` prints of the forms of a text.
+# A canonical form.
 Form = Literal[1, 2]
-FORMS: dict[str, tuple[Form, ...]] = {"none": (), "1": (1,), "2": (2,), "1 2": (1, 2)}
-CHECKED = re.compile(rf"accepted ({KIND})\n(?:fits (ss|p2p|co)\n)?forms ({'|'.join(FORMS)})\n")
 # The line of `compare` for each difference. Words in capitals stand for values.
 DIFFERENCES = {
     "kind": "differ kind LEFT RIGHT",
@@ -152,49 +148,3 @@ if TYPE_CHECKING:
     AnyDifference = Union[KindDifference, OfNumbers, ItemDifference, PointDifference]
 else:
     AnyDifference = Difference
-
-
-def difference_pattern(what: str) -> re.Pattern[str]:
-    """Returns the pattern of the line of a difference, with a group for each value."""
-    side = {"kind": KIND, "length": f"{NUMBER}|none", "cost": f"{NUMBER}|none"}.get(what, NUMBER)
-    words = DIFFERENCES[what].split()
-    groups = [f"(?P<{it}>{side if it in ('LEFT', 'RIGHT') else NUMBER})" if it.isupper() else it for it in words]
-    return re.compile(" ".join(groups) + "\n")
-
-
-DIFFERENCE_PATTERNS = {what: difference_pattern(what) for what in DIFFERENCES}
-
-
-def checked(out: str) -> Checked:
-    """Returns what the lines of `check` say. Raises ValueError for other lines, as `compared` does."""
-    found = CHECKED.fullmatch(out)
-    if not found:
-        raise ValueError(out)
-    kind, fits, forms = found.groups()
-    return Checked(kind, fits, FORMS[forms])
-
-
-def compared(out: str) -> Same | AnyDifference:
-    """Returns what the line of `compare` says."""
-    if out == "same\n":
-        return Same()
-    for what, pattern in DIFFERENCE_PATTERNS.items():
-        found = pattern.fullmatch(out)
-        if found:
-            return difference(what, found.groupdict())
-    raise ValueError(out)
-
-
-def difference(what: str, words: dict[str, str]) -> AnyDifference:
-    """Returns the difference that these words tell."""
-
-    def side(name: str) -> int | str | None:
-        word = words.get(name, "none")
-        return word if what == "kind" else None if word == "none" else int(word)
-
-    def number(name: str) -> int | None:
-        return int(words[name]) if name in words else None
-
-    pair = (int(words["TAIL"]), int(words["HEAD"])) if "TAIL" in words else None
-    values = side("LEFT"), side("RIGHT"), number("NODE"), pair, number("AMOUNT"), number("PLACE")
-    return cast(AnyDifference, Difference(what, *values))

@@ -1,75 +1,74 @@
-"""The calls that check, canonicalise, compare and write texts. Each runs the program once."""
+"""The calls that check, canonicalise, compare and write texts. Each reads a text once."""
 
 from __future__ import annotations
 
+import contextlib
+import functools
 import hashlib
+import os
 import warnings
-from collections.abc import Callable, Iterator, Sequence
-from typing import Optional, TypeVar, Union
+from collections.abc import Callable, Iterator
+from typing import Optional, Union
 
-from .answers import AnyDifference, Checked, Form, Same, checked, compared
-from .files import File, Pieces, Sink, Target, enough_memory, name_of, sink_of
+from .answers import AnyDifference, Checked, Form, Same
+from .errors import Refused
+from .files import File, Pieces, Sink, Target, Text, enough_memory, name_of, sink_of
 from .instances import Instance
-from .limits import Limit
+from .library import Held, held
+from .limits import Limit, at_once
 from .names import KINDS, parts_of
-from .program import Program, run, unexpected
-
-Answer = TypeVar("Answer")
 
 
-def check(
-    file: File, companion: Optional[File] = None, *, program: Program = None, timeout: Optional[float] = None
-) -> Checked:
+def check(file: File, companion: Optional[File] = None, *, timeout: Optional[float] = None) -> Checked:
     """Checks a text, and with a companion that the companion fits.
 
     Returns the kind of the text, the kind of the companion, and the forms in which the text is canonical. Raises
     `Refused` if the text or the companion has a fault, or if the companion does not fit."""
+    limit = Limit(timeout, name_of(file))
+    with enough_memory(limit.name), contextlib.ExitStack() as stack:
+        text, fits = SummedText(file, stack, limit), None
+        found = stack.enter_context(held(text))
+        if companion is not None:
+            beside = stack.enter_context(held(Text(companion, stack, limit)))
+            found.check_fit(beside)
+            fits = beside.kind
+        answer = Checked(found.kind, fits, forms_of(found.kind, text.checksum, found.checksum))
+    return answer
 
-    def words(name: str, *others: str) -> Sequence[str]:
-        return ["check", name, *(["--with", *others] if others else [])]
 
-    files = [file] if companion is None else [file, companion]
-    found = answer(checked, words, files, program, Limit(timeout, name_of(file)))
-    if bool(found.fits) != (companion is not None):
-        raise unexpected(name_of(file), 0, str(found))
-    return found
-
-
-def canon(file: File, form: Form = 1, *, program: Program = None, timeout: Optional[float] = None) -> bytes:
+def canon(file: File, form: Form = 1, *, timeout: Optional[float] = None) -> bytes:
     """Returns the canonical text of a text. `form` is 1 or 2, and matters only for `min`."""
     parts: list[bytes] = []
     limit = Limit(timeout, name_of(file))
     with enough_memory(limit.name):
-        canon_into(Sink("out", parts.append), file, form, program, limit)
+        canon_into(parts.append, file, form, limit)
         return b"".join(parts)
 
 
-def canon_to(
-    file: File, target: Target, form: Form = 1, *, program: Program = None, timeout: Optional[float] = None
-) -> None:
-    """Writes the canonical text of a text to a path or a binary stream, without keeping it in memory.
+def canon_to(file: File, target: Target, form: Form = 1, *, timeout: Optional[float] = None) -> None:
+    """Writes the canonical text of a text to a path or a binary stream.
 
     A path gets a new file once all of it is written, and keeps what it had if anything is raised; it may be the path of
     `file`. A path that ends in `.gz`, `.bz2`, `.xz` or `.zst` gets a compressed file. A stream, a device or a pipe has
     got a prefix of the text if writing fails. Raises `Write` then, and for a path that ends as other compressed files
     do."""
     with sink_of(target) as sink:
-        canon_into(sink, file, form, program, Limit(timeout, name_of(file)))
+        canon_into(sink.take, file, form, Limit(timeout, name_of(file)))
 
 
-def checksum(file: File, form: Form = 1, *, program: Program = None, timeout: Optional[float] = None) -> str:
+def checksum(file: File, form: Form = 1, *, timeout: Optional[float] = None) -> str:
     """Returns the SHA-256 checksum of the canonical text, in hexadecimal digits. Texts that pose the same problem have
     the same checksum."""
     found = hashlib.sha256()
-    canon_into(Sink("out", found.update), file, form, program, Limit(timeout, name_of(file)))
+    canon_into(found.update, file, form, Limit(timeout, name_of(file)))
     return found.hexdigest()
 
 
-def write(instance: Instance, target: Target, *, program: Program = None, timeout: Optional[float] = None) -> None:
+def write(instance: Instance, target: Target, *, timeout: Optional[float] = None) -> None:
     """Writes a text that poses the problem of an instance, with its arcs or items in their order, to a path or a binary
     stream, as `canon_to` does. The text of an instance that was read is the canonical text.
 
-    A path whose ending is that of another kind leads to a warning. The program reads the text as well. If the text has
+    A path whose ending is that of another kind leads to a warning. The library reads the text as well. If the text has
     a fault, as a node that the graph does not have, `Refused` is raised with the line, and a path keeps what it had."""
     if not isinstance(instance, Instance):
         raise TypeError(f"write takes an instance, and then a target, and not {type(instance).__name__}")
@@ -77,55 +76,91 @@ def write(instance: Instance, target: Target, *, program: Program = None, timeou
     if expected != instance.kind:
         warnings.warn(f"{name_of(target)}: its ending is that of {expected}, not of {instance.kind}", stacklevel=2)
 
-    def copied() -> Iterator[bytes]:
+    def copied(sink: Sink) -> Iterator[bytes]:
         for piece in instance.pieces():
             sink.take(piece)
             yield piece
 
-    with sink_of(target) as sink:
-        canon_into(Sink("out", len), Pieces(sink.name, copied()), 1, program, Limit(timeout, sink.name))
+    with sink_of(target) as sink, enough_memory(sink.name), contextlib.ExitStack() as stack:
+        text = Text(Pieces(sink.name, copied(sink)), stack, Limit(timeout, sink.name))
+        stack.enter_context(held(text))
 
 
-def canon_into(
-    sink: Sink, file: File, form: int, program: Program, limit: Limit, watch: Optional[Callable[[bytes], object]] = None
-) -> None:
-    """Writes the canonical text of a text into a sink. `watch` takes the pieces of the text."""
-    check_form(form)
-    status = run(lambda name: ["canon", "--form", str(int(form)), name], [file], sink, program, limit, watch)
-    if status:
-        raise unexpected(name_of(file), status, "")
+def canon_into(take: Callable[[bytes], object], file: File, form: Form, limit: Limit) -> None:
+    """Gives the pieces of the canonical text of a text to `take`."""
+    form = checked_form(form)
+    with enough_memory(limit.name), contextlib.ExitStack() as stack:
+        found = stack.enter_context(held(Text(file, stack, limit)))
+        for piece in found.canonical(form):
+            take(piece)
 
 
-def check_form(form: int) -> None:
-    """Raises ValueError for a number that is no form."""
-    if form not in (1, 2):
-        raise ValueError(f"form is 1 or 2, and not {form!r}")
+def checked_form(number: int) -> Form:
+    """Returns the form that a number names, which may be one of numpy. Raises ValueError if it names none."""
+    if number not in (1, 2):
+        raise ValueError(f"form is 1 or 2, and not {number!r}")
+    return 1 if number == 1 else 2
 
 
-def compare(
-    left: File, right: File, *, program: Program = None, timeout: Optional[float] = None
-) -> Union[Same, AnyDifference]:
+def compare(left: File, right: File, *, timeout: Optional[float] = None) -> Union[Same, AnyDifference]:
     """Returns `Same` if both texts pose the same problem, or else their first `Difference`. As a condition, `Same` is
     true and a `Difference` is false."""
-    return answer(compared, lambda *names: ["compare", *names], [left, right], program, Limit(timeout, name_of(left)))
+    limit = Limit(timeout, name_of(left))
+    with enough_memory(limit.name), contextlib.ExitStack() as stack:
+        one, other = both_read((left, right), (stack, stack), limit)
+        answer = one.first_difference(other)
+    return answer
 
 
-def answer(
-    read: Callable[[str], Answer],
-    words: Callable[..., Sequence[str]],
-    files: Sequence[File],
-    program: Program,
-    limit: Limit,
-) -> Answer:
-    """Returns what the lines say that the program prints for these files."""
-    parts: list[bytes] = []
-    status = run(words, files, Sink("out", parts.append), program, limit)
-    out = b"".join(parts).decode("ascii", "backslashreplace")
-    try:
-        found = read(out)
-    except ValueError as error:
-        raise unexpected(name_of(files[0]), status, str(error)) from None
-    # The status is 0 but for a difference, which is false.
-    if bool(found) != (status == 0):
-        raise unexpected(name_of(files[0]), status, out)
-    return found
+def both_read(
+    files: tuple[File, File], stacks: tuple[contextlib.ExitStack, contextlib.ExitStack], limit: Limit
+) -> tuple[Held, Held]:
+    """Reads two texts, whose instances the stacks free: two files at the same time, and others one after the other, as
+    a pipe of the right one may be written only later."""
+
+    def read(file: File, stack: contextlib.ExitStack) -> Held:
+        return stack.enter_context(held(Text(file, stack, limit)))
+
+    if not all(isinstance(it, (str, os.PathLike)) and os.path.isfile(it) for it in files):
+        left, right = (read(*it) for it in zip(files, stacks))
+        return left, right
+    text = Text(files[1], stacks[1], limit)
+    return at_once(lambda: read(files[0], stacks[0]), lambda: stacks[1].enter_context(held(text)), text.stop)
+
+
+class SummedText(Text):
+    """A text whose pieces are summed. `checksum` is that of the bytes that were read, or None if no canonical text
+    begins as it does."""
+
+    def __init__(self, file: File, stack: contextlib.ExitStack, limit: Limit) -> None:
+        super().__init__(file, stack, limit)
+        self._sum, self._is_canonical = hashlib.sha256(), True
+
+    def next_piece(self) -> Optional[bytes]:
+        is_begun = self.size > 0
+        piece = super().next_piece()
+        if piece:
+            self._is_canonical &= is_begun or piece.startswith(b"p")
+            if self._is_canonical:
+                self._sum.update(piece)
+        return piece
+
+    @property
+    def checksum(self) -> Optional[str]:
+        return self._sum.hexdigest() if self._is_canonical else None
+
+
+def forms_of(kind: str, own: Optional[str], checksum: Callable[[Form], str]) -> tuple[Form, ...]:
+    """Returns the forms in which a text is canonical, by its own checksum and those of its canonical texts."""
+
+    @functools.cache
+    def is_canonical(form: Form) -> bool:
+        try:
+            return own == checksum(form)
+        except Refused:
+            # The canonical text has too many lines.
+            return False
+
+    forms: tuple[Form, ...] = (1, 2)
+    # Both forms are the same but for `min`.
+    return tuple(it for it in forms if own and is_canonical(it if kind == "min" else 1))

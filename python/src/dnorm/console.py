@@ -9,7 +9,7 @@ import re
 import signal
 import threading
 import time
-from collections.abc import Callable, Iterator
+from collections.abc import Callable
 from typing import NoReturn
 
 from .errors import Write
@@ -27,18 +27,6 @@ class Stopped(BaseException):
     def __init__(self, number: int) -> None:
         super().__init__(number)
         self.number = number
-
-
-@contextlib.contextmanager
-def heeding_signals() -> Iterator[None]:
-    """Raises the signal that comes while `threading` has let a lock go for a wait: the lock, which is then released a
-    second time, complains in its place."""
-    try:
-        yield
-    except RuntimeError as error:
-        if isinstance(error.__context__, Stopped):
-            raise error.__context__ from None
-        raise
 
 
 def stop(number: int, _: object) -> NoReturn:

@@ -2,7 +2,6 @@
 
 from __future__ import annotations
 
-import signal
 from typing import Optional
 
 from .refusals import REFUSALS
@@ -64,7 +63,7 @@ class Refused(DnormError):
 
 
 class Memory(DnormError):
-    """The program is out of memory."""
+    """There is too little memory."""
 
     what = ": 30 Memory"
 
@@ -73,19 +72,6 @@ class Endless(DnormError):
     """A text has no end."""
 
     what = ": 32 Endless"
-
-
-class Killed(DnormError):
-    """A signal ended the program. Some systems send SIGKILL where memory runs out."""
-
-    def __init__(self, name: str, number: int) -> None:
-        super().__init__(name, number)
-        self.signal = number
-
-    @property
-    def rest(self) -> str:
-        names = {it.value: f" ({it.name})" for it in signal.Signals}
-        return f": dnorm was ended by signal {self.signal}{names.get(self.signal, '')}"
 
 
 class TimedOut(DnormError):
@@ -129,14 +115,13 @@ class Write(Failed):
     what = ": 33 Write"
 
 
+class NoLibrary(Failed):
+    """The library cannot be found, or is another one. `name` is its path."""
+
+    what = ": cannot be used"
+
+
 class NoProgram(Failed):
-    """The program cannot be found or started, or is another program; or the library that `$DNORM_LIBRARY` names cannot
-    be used. `name` is the name of the program or the library."""
+    """A program that a command runs, as git, cannot be found or started. `name` is the name of the program."""
 
     what = ": cannot be run"
-
-
-class Unexpected(Failed):
-    """The program did something that this package does not know, as a line of another shape."""
-
-    what = ": dnorm did not answer as it should"

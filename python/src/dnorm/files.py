@@ -1,9 +1,8 @@
-"""The files that the program reads, and the targets that canonical texts are written to."""
+"""The files that are read, and the targets that canonical texts are written to."""
 
 from __future__ import annotations
 
 import contextlib
-import fcntl
 import io
 import os
 import secrets
@@ -17,9 +16,6 @@ from .compressed import SIZE, Compressed, compression_of, compressor_of, pieces
 from .errors import DnormError, Memory, Read, Refused, Write
 from .instances import Instance
 from .limits import Limit, Timed
-
-# A line that no text has. It ends a text whose reading failed, so that the program refuses the text.
-BAD_LINE = b"\n?\n"
 
 
 class Readable(Protocol):
@@ -85,15 +81,6 @@ def write_all(file: BinaryIO, data: bytes) -> None:
         rest = rest[file.write(rest) :]
 
 
-def takes(pipe: BinaryIO, data: bytes) -> bool:
-    """Writes all of these bytes to a pipe. Returns False if nothing reads them."""
-    try:
-        write_all(pipe, data)
-    except BrokenPipeError:
-        return False
-    return True
-
-
 class Pieces:
     """A stream of these pieces, one after another."""
 
@@ -121,12 +108,6 @@ def of_stream(stream: Readable) -> Iterator[bytes]:
         if not piece:
             return
         yield bytes(piece)
-
-
-def beyond_standard(file: BinaryIO) -> BinaryIO:
-    """Opens what is open a second time, away from the descriptors of the standard streams, which the file has if these
-    were closed. A child would have its own standard streams in its place."""
-    return open(fcntl.fcntl(file.fileno(), fcntl.F_DUPFD_CLOEXEC, 3), "rb", buffering=0)
 
 
 def failed(error: Read) -> Iterator[bytes]:
@@ -158,7 +139,7 @@ def mark_of(file: BinaryIO) -> tuple[int, int] | None:
 
 class Progress:
     """How many bytes of files were read: those of the files that are closed, and of those that are open as far as they
-    are read, also by the program, which reads by the same open file."""
+    are read."""
 
     def __init__(self) -> None:
         self._begin()
@@ -219,7 +200,7 @@ class Text:
         except Read as error:
             if isinstance(file, (str, os.PathLike)):
                 error = Read(error.name, error.reason, error.hint or hint_of_missing(file))
-            # The program has to judge an earlier text first.
+            # An earlier text is judged first.
             self.text = failed(error)
         self.is_file = isinstance(self.text, io.FileIO)
         self.is_compressed = self.is_path and not self.is_file
@@ -294,80 +275,11 @@ class Text:
         yield self._all(self._begun())
 
 
-class Source(Text):
-    """A text that the program reads from `end`, whose descriptor is `fd` and whose path is `place`. That is the file
-    itself, if its bytes are the text and nobody watches them, or else the end of a pipe that `feed` writes to; but if a
-    folder is given, it is a file of its own there, which has the text already. `failure` is why reading the text
-    failed, and `sure` is the number of its lines that were read whole before. `watch` takes each piece."""
-
-    def __init__(
-        self,
-        file: File,
-        stack: contextlib.ExitStack,
-        limit: Limit,
-        folder: str | None = None,
-        watch: Callable[[bytes], object] | None = None,
-    ) -> None:
-        super().__init__(file, stack, limit)
-        self.watch, self.sure = watch, 0
-        self.failure: Read | None = None
-        self._into: BinaryIO | None = None
-        with contextlib.ExitStack() as first:
-            self.end = stack.enter_context(beyond_standard(self._first_end(folder, first, stack)))
-        self.fd = self.end.fileno()
-        if folder is None:
-            self.place = f"/dev/fd/{self.fd}"
-
-    def _first_end(self, folder: str | None, first: contextlib.ExitStack, stack: contextlib.ExitStack) -> BinaryIO:
-        """Returns what `end` reads. `first` closes it, except for the file of the text, which stays open: the cause of
-        a refusal is looked for in it."""
-        if folder is not None:
-            self.place = self._into_file(folder, stack)
-            return first.enter_context(open(self.place, "rb", buffering=0))
-        if isinstance(self.text, io.FileIO) and not self.watch:
-            return self.text
-        reads, writes = os.pipe()
-        self._into = stack.enter_context(open(writes, "wb", buffering=0))
-        return first.enter_context(open(reads, "rb", buffering=0))
-
-    def _into_file(self, folder: str, stack: contextlib.ExitStack) -> str:
-        """Writes the text into a file of its own in a folder, and returns the path. The stack removes the file."""
-        place = os.path.join(os.path.abspath(folder), f"dnorm-{secrets.token_hex(8)}")
-        with failing(Write, place):
-            self._into = stack.enter_context(open(place, "xb", buffering=0))
-            stack.callback(os.unlink, place)
-            self.feed()
-        return place
-
-    def feed(self) -> None:
-        """Writes the text into the pipe, until the program reads no more of it. If reading the text fails, ends it with
-        a line that the program refuses."""
-        if not self._into:
-            return
-        try:
-            while (piece := self.next_piece()) is not None:
-                self.limit.left()
-                if self.watch:
-                    self.watch(piece)
-                is_taken = takes(self._into, piece)
-                # Only the end of a compressed file tells whether its lines are right, so it is read to its end.
-                if not self.is_compressed:
-                    if not is_taken:
-                        break
-                    self.sure += piece.count(b"\n")
-        except Read as error:
-            self.failure = error
-            takes(self._into, BAD_LINE)
-        self._into.close()
-        self._into = None
-
-
 class Sink:
-    """Where the output of the program goes: into `file`, which the program itself writes, or else piece by piece to
-    `take`."""
+    """Where a text goes, piece by piece, by `take`. Errors call it by its name."""
 
-    def __init__(self, name: str, take: Callable[[bytes], object], file: BinaryIO | None = None) -> None:
-        self.name, self.take, self.file = name, take, file
+    def __init__(self, name: str, take: Callable[[bytes], object]) -> None:
+        self.name, self.take = name, take
 
 
 @contextlib.contextmanager
@@ -390,7 +302,7 @@ def sink_of(target: Target) -> Iterator[Sink]:
                 yield sink
         else:
             with stream_sink(file, name) as sink:
-                yield Sink(name, sink.take, file)
+                yield sink
 
 
 @contextlib.contextmanager

@@ -10,14 +10,13 @@ from fnmatch import fnmatchcase
 from typing import NamedTuple, Optional, TypeVar, Union
 
 from .answers import Form, table
-from .calls import check_form
+from .calls import checked_form
 from .errors import DnormError, Read
 from .files import reason_of
-from .library import library_of
 from .limits import check_seconds
 from .manifests import Manifest
 from .names import ENDINGS, is_text, misnamed_text
-from .program import Program, processors
+from .program import processors
 from .records import Partners, Reading, Record, counts_of
 
 # What version control keeps for itself: branches can have names like texts. CVS has a list in each of its folders.
@@ -140,17 +139,16 @@ def check_folder(
     *paths: Union[str, os.PathLike[str]],
     exclude: Sequence[str] = (),
     form: Form = 1,
-    program: Program = None,
     timeout: Optional[float] = None,
 ) -> Collection:
     """Checks the texts of folders, and that companions fit the graphs of their names, as `dnorm-files check
     --companions` does. Reads each file once, as many at the same time as there are processors. Raises no error for a
     file that is refused, cannot be read, or takes more than `timeout` seconds: its record has it."""
-    check_form(form)
+    form = checked_form(form)
     if timeout is not None:
         check_seconds(timeout)
     found = find([os.fspath(it) for it in paths], ENDINGS, exclude)
-    reading = Reading(program, library_of(program), form, Partners(found.files), timeout=timeout)
+    reading = Reading(form, Partners(found.files), timeout=timeout)
 
     def record(name: str) -> Record:
         error = found.files[name]

@@ -4,7 +4,6 @@ from __future__ import annotations
 
 import importlib
 import operator
-import re
 from array import array
 from collections.abc import Iterator, Mapping
 from dataclasses import dataclass, fields
@@ -26,8 +25,6 @@ if TYPE_CHECKING:
 else:
     Network = MultiNetwork = DataFrame = csr_matrix = Any
 
-# The problem line of a canonical text.
-PROBLEM = re.compile(rb"p (?:(min|max|sp) ([0-9]+)|aux sp (ss|p2p|co)) ([0-9]+)\n")
 # The letter of the counted lines of each kind, and how many numbers follow it.
 COUNTED = {"min": (b"a", 5), "max": (b"a", 3), "sp": (b"a", 3), "ss": (b"s", 1), "p2p": (b"q", 2), "co": (b"v", 3)}
 # How many rows are made of columns at a time, and how many lines of text.

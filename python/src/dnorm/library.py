@@ -1,5 +1,4 @@
-"""Reads texts by the library for C, libdnorm, where it is found beside the program: with the answers of the program,
-and without a process that prints them."""
+"""Reads texts by the library for C, libdnorm, which comes with this package."""
 
 from __future__ import annotations
 
@@ -9,24 +8,27 @@ import functools
 import hashlib
 import operator
 import os
+import platform
 from array import array
 from collections.abc import Iterator
-from typing import Any, Optional, cast
+from importlib.machinery import EXTENSION_SUFFIXES
+from typing import Any, cast
 
 from .answers import AnyDifference, Difference, Same
 from .columns import column
-from .errors import DnormError, Endless, Memory, NoProgram, Refused
+from .errors import DnormError, Endless, Memory, NoLibrary, Refused
 from .files import Text
 from .limits import Lease
-from .program import Program, children, command, script_folders, unexpected, with_cause
+from .program import page
 from .refusals import REFUSALS
 
-# The name of the library ends with the number of the interface that this module knows.
+# The name of the library ends with the number of the interface that this module knows. setuptools, which builds it from
+# a source distribution, gives it the name of a module.
 ABI = 3
 NAME = f"libdnorm.so.{ABI}"
-# Where the library is, from the folder of the program: below PREFIX, on Debian, and in the archive of a release. On
-# Debian, libraries for other processors may be beside that of this machine.
-BESIDE = ["../lib", f"../lib/{os.uname().machine}-linux-gnu", "lib"]
+NAMES = [NAME, *(f"libdnorm{it}" for it in EXTENSION_SUFFIXES)]
+# Where the library is, from here: in a wheel; in an archive; in a clone; below the prefix of `./install`; on Debian.
+PLACES = ["", "../../../lib", "../../../c/out/lib", "../../../../lib", f"../../../{platform.machine()}-linux-gnu"]
 # Kinds by their numbers, with the numbers of an arc, and those of an item of a companion, that are columns.
 KINDS = [("", 0), ("min", 5), ("max", 3), ("sp", 3), ("ss", 1), ("p2p", 2), ("co", 3)]
 GRAPHS = ("min", "max", "sp")
@@ -38,7 +40,7 @@ FINE, MEMORY, NOT_IN_GRAPH, AT_LINE = 0, 30, 35, 1
 # How many arcs, items or arc lines, and how many bytes, are copied at a time. Between two calls it is seen whether the
 # time is over.
 ROOM, BYTES = 1 << 14, 1 << 16
-# A text of so many bytes has no end, as the program says it.
+# A text of so many bytes has no end.
 ENDLESS = 1 << 40
 
 U8, I64, U64, SIZE, ADDRESS = ctypes.c_uint8, ctypes.c_int64, ctypes.c_uint64, ctypes.c_size_t, ctypes.c_void_p
@@ -101,60 +103,45 @@ class Library:
         return getattr(self._loaded, f"dnorm_{name}")
 
 
+def find_library() -> str:
+    """Returns the path of the library by which texts are read: that of `$DNORM_LIBRARY`, or else the one that came with
+    this package. Raises `NoLibrary` if there is none, or if it cannot be used."""
+    return library().path
+
+
+def library() -> Library:
+    """Returns the library. Raises NoLibrary if there is none."""
+    return loaded(os.environ.get("DNORM_LIBRARY", ""))
+
+
 @functools.lru_cache(maxsize=None)
-def loaded(path: str) -> Library | Exception:
-    """Returns the library of this path, or why it is none."""
-    try:
-        return Library(path)
-    except (OSError, AttributeError) as error:
-        return error
+def loaded(named: str) -> Library:
+    """Returns the library of this path, or if there is no path the one that came with this package. Raises NoLibrary if
+    there is none."""
+    error = NoLibrary(NAME, f"it is not there; {page()} says where to get it")
+    for path in [os.path.abspath(named)] if named else filter(os.path.exists, places()):
+        try:
+            return Library(path)
+        except (OSError, AttributeError) as reason:
+            error = NoLibrary(path, str(reason))
+    raise error
 
 
-def library_of(program: Program) -> Library | None:
-    """Returns the library in whose place the program would run, if there is one: that of `$DNORM_LIBRARY`, unless a
-    program is given, or else the one beside the program. None of them is used if `$DNORM_LIBRARY` is `none`. Raises
-    `NoProgram` if the library that it names cannot be used, and if there is no program either."""
-    named = os.environ.get("DNORM_LIBRARY")
-    if named == "none":
-        return None
-    if named and program is None:
-        found = loaded(os.path.abspath(named))
-        if isinstance(found, Exception):
-            raise NoProgram(named, f"$DNORM_LIBRARY names it, and it cannot be used: {found}") from found
-        return found
-    words = command(program)
-    for path in places_beside(words[0]) if len(words) == 1 else ():
-        if os.path.exists(path):
-            found = loaded(path)
-            # A library that cannot be loaded here, or of another version, is left alone.
-            return found if isinstance(found, Library) else None
-    return None
-
-
-def places_beside(program: str) -> Iterator[str]:
-    """Yields the paths where the library of a program may be: the program that pip installed has it in the package."""
-    if os.path.dirname(program) in script_folders():
-        yield os.path.join(os.path.dirname(os.path.realpath(__file__)), NAME)
-    folder = os.path.dirname(os.path.realpath(program))
-    for it in BESIDE:
-        yield os.path.normpath(os.path.join(folder, it, NAME))
-
-
-def find_library(program: Program = None) -> Optional[str]:
-    """Returns the path of the library by which `read` reads, or None if the program does it: where there is no library
-    beside the program, where it is one of another version, and if `$DNORM_LIBRARY` is `none`. That may also be the path
-    of a library."""
-    found = library_of(program)
-    return found.path if found else None
+def places() -> Iterator[str]:
+    """Yields the paths where the library may be."""
+    here = os.path.dirname(os.path.realpath(__file__))
+    for it in PLACES:
+        for name in NAMES if it == "" else [NAME]:
+            yield os.path.normpath(os.path.join(here, it, name))
 
 
 class Held:
     """An instance that the library has read of a text: its kind, `nodes`, the numbers of counted `lines` that were read
     and of `pairs` with arcs, and its numbers as columns. Calls take the lease that may go on after the instance."""
 
-    def __init__(self, library: Library, handle: Any, text: Text, lease: Lease) -> None:
-        self._library, self._handle, self._text, self._lease = library, handle, text, lease
-        facts = library.facts(handle)
+    def __init__(self, found: Library, handle: Any, text: Text, lease: Lease) -> None:
+        self._library, self._handle, self._text, self._lease = found, handle, text, lease
+        facts = found.facts(handle)
         self.kind, self._width = KINDS[facts.kind]
         self.nodes: int = facts.nodes
         self.lines: int = facts.lines
@@ -214,22 +201,28 @@ class Held:
             raise error_of(Status(found.code), self._text)
         return int(found.count)
 
-    def checksum(self, form: int) -> str:
-        """Returns the SHA-256 checksum of the canonical text in a form."""
-        library, found, text = self._library, hashlib.sha256(), Handle()
-        lease = Lease(lambda: library.free(ctypes.byref(text)))
+    def canonical(self, form: int) -> Iterator[bytes]:
+        """Yields the canonical text in a form, in pieces."""
+        free, text = self._library.free, Handle()
+        lease = Lease(lambda: free(ctypes.byref(text)))
         try:
-            make = functools.partial(library.canon, self._handle, form, ctypes.byref(text))
+            make = functools.partial(self._library.canon, self._handle, form, ctypes.byref(text))
             status = self._text.limit.during(make, self._lease, lease)
             if status.code != FINE:
                 raise error_of(status, self._text)
             at, room = 0, ctypes.create_string_buffer(BYTES)
-            while more := library.text(ctypes.byref(text), at, room, BYTES).count:
+            while more := self._library.text(ctypes.byref(text), at, room, BYTES).count:
                 self._text.limit.left()
-                found.update(ctypes.string_at(room, more))
+                yield ctypes.string_at(room, more)
                 at += more
         finally:
             lease.end()
+
+    def checksum(self, form: int) -> str:
+        """Returns the SHA-256 checksum of the canonical text in a form."""
+        found = hashlib.sha256()
+        for piece in self.canonical(form):
+            found.update(piece)
         return found.hexdigest()
 
     def first_difference(self, right: Held) -> Same | AnyDifference:
@@ -271,11 +264,11 @@ def room_for(size: int) -> array[int]:
 class LinesRead:
     """Reads the arc lines of a text by the library, which has taken its pieces before."""
 
-    def __init__(self, library: Library) -> None:
-        self._library, self._handle = library, Handle()
+    def __init__(self) -> None:
+        self._library, self._handle = library(), Handle()
         self._columns = [array("q") for _ in range(6)]
         self._room = room_for(6 * ROOM)
-        if library.lines_begin(ctypes.byref(self._handle)).code != FINE:
+        if self._library.lines_begin(ctypes.byref(self._handle)).code != FINE:
             raise MemoryError
 
     def take(self, piece: bytes) -> None:
@@ -302,20 +295,20 @@ class LinesRead:
 
 
 @contextlib.contextmanager
-def held(library: Library, text: Text, lines: LinesRead | None = None) -> Iterator[Held]:
+def held(text: Text, lines: LinesRead | None = None) -> Iterator[Held]:
     """Reads a text, and its arc lines if they are wanted, and frees its instance at the end."""
-    handle = Handle()
+    found, handle = library(), Handle()
     address = ctypes.byref(handle)
-    lease = Lease(lambda: library.free(address))
+    lease = Lease(lambda: found.free(address))
     try:
-        status, failed = library.begin(address), None
+        status, failed = found.begin(address), None
         if status.code == FINE:
-            status = fed(library, address, text, lines)
+            status = fed(found, address, text, lines)
         if status.code == FINE:
-            status = text.limit.during(functools.partial(library.finish, address), lease)
+            status = text.limit.during(functools.partial(found.finish, address), lease)
         if status.code == FINE:
             text.limit.left()
-            yield Held(library, address, text, lease)
+            yield Held(found, address, text, lease)
         else:
             failed = error_of(status, text)
     finally:
@@ -324,18 +317,17 @@ def held(library: Library, text: Text, lines: LinesRead | None = None) -> Iterat
         raise failed
 
 
-def fed(library: Library, address: Any, text: Text, lines: LinesRead | None) -> Any:
+def fed(found: Library, address: Any, text: Text, lines: LinesRead | None) -> Any:
     """Feeds a text to a reader, to its end or to its first fault, and returns the status of the last piece. A
     compressed file is read to its end, since only the end tells whether its lines are right."""
     status, size = Status(), 0
     while (piece := text.next_piece()) is not None:
         text.limit.left()
-        children.go_on()
         size += len(piece)
         if size >= ENDLESS:
             raise Endless(text.name)
         if status.code == FINE:
-            status = library.feed(address, piece, len(piece))
+            status = found.feed(address, piece, len(piece))
             if lines and status.code == FINE:
                 lines.take(piece)
         if status.code != FINE and not text.is_compressed:
@@ -348,7 +340,14 @@ def error_of(status: Any, text: Text) -> DnormError:
     """Returns the error of a status."""
     if status.code == MEMORY:
         return Memory(text.name)
-    if status.code not in REFUSALS:
-        return unexpected(text.name, status.code, "")
     line = status.line if status.place == AT_LINE else None
     return with_cause(Refused(text.name, line, status.code, REFUSALS[status.code][0]), text)
+
+
+def with_cause(error: Refused, text: Text) -> Refused:
+    """Returns a refusal with its cause, if that can be found."""
+    cause = text.cause(error)
+    if not cause:
+        return error
+    hint = "\n".join(cause.hints) or None
+    return Refused(error.name, error.line, error.number, error.word, error.node, cause.text, hint)

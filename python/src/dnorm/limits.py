@@ -4,10 +4,7 @@ from __future__ import annotations
 
 import contextlib
 import numbers
-import os
 import select
-import signal
-import subprocess
 import threading
 import time
 from collections.abc import Callable, Iterator
@@ -89,40 +86,29 @@ class Limit:
         for it in leases:
             it.take()
         started(threading.Thread(target=run, daemon=True), self.name)
-        has_ended.wait(left)
+        with heeding_signals():
+            has_ended.wait(left)
         self.left()
         return found[0]
 
-    @contextlib.contextmanager
-    def over(self, process: subprocess.Popen[bytes]) -> Iterator[None]:
-        """Kills a process if it runs when the time is over. Raises TimedOut at the end then."""
-        left, is_over = self.left(), threading.Event()
-        if left is None or self.seconds is None:
-            yield
-            return
 
-        def end() -> None:
-            is_over.set()
-            # Popen.kill() would take the status of a process that has ended.
-            if process.returncode is None:
-                with contextlib.suppress(ProcessLookupError):
-                    os.kill(process.pid, signal.SIGKILL)
-
-        timer = threading.Timer(left, end)
-        timer.daemon = True
-        started(timer, self.name)
-        try:
-            yield
-        finally:
-            timer.cancel()
-        if is_over.is_set():
-            raise TimedOut(self.name, self.seconds)
+@contextlib.contextmanager
+def heeding_signals() -> Iterator[None]:
+    """Raises what a signal has raised while `threading` had let a lock go for a wait: the lock, which is then released
+    a second time, complains in its place. What ends a run, as KeyboardInterrupt, is no Exception."""
+    try:
+        yield
+    except RuntimeError as error:
+        if error.__context__ and not isinstance(error.__context__, Exception):
+            raise error.__context__ from None
+        raise
 
 
 def started(thread: threading.Thread, name: str) -> None:
     """Starts a thread for the file of this name."""
     try:
-        thread.start()
+        with heeding_signals():
+            thread.start()
     except RuntimeError as error:
         # The system lets no more threads start.
         raise Memory(name) from error
@@ -134,12 +120,14 @@ def at_once(one: Callable[[], Result], other: Callable[[], Other], end: Callable
     # What the thread reads must not be closed before it ends, for which the pool waits.
     with ThreadPoolExecutor(1) as pool:
         try:
-            later = pool.submit(other)
-        except RuntimeError:
-            # The system lets no more threads start.
-            return one(), other()
-        try:
-            return one(), later.result()
+            try:
+                with heeding_signals():
+                    later = pool.submit(other)
+            except RuntimeError:
+                # The system lets no more threads start.
+                return one(), other()
+            with heeding_signals():
+                return one(), later.result()
         except BaseException:
             end()
             raise

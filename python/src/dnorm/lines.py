@@ -75,34 +75,3 @@ class ArcLines:
         if len(units) != len(self):
             raise ValueError(f"there are {len(self)} arc lines, and {len(units)} numbers of units")
         return map(b"f %d %d %d\n".__mod__, zip(self.tails.tolist(), self.heads.tolist(), map(int, units)))
-
-
-class LinesOfText:
-    """Reads the arc lines of a text that comes in pieces. The program judges the text: of one that it refuses, some
-    lines are read."""
-
-    def __init__(self) -> None:
-        self._rest, self._count, self._kind, self._is_refused = b"", 0, "", False
-        self._columns = [array("q") for _ in range(6)]
-
-    def take(self, piece: bytes) -> None:
-        """Reads the next piece."""
-        *lines, self._rest = (self._rest + piece).split(b"\n")
-        try:
-            for line in lines if not self._is_refused else ():
-                self._line(line.split())
-        except (IndexError, ValueError, OverflowError):
-            self._is_refused = True
-
-    def _line(self, words: list[bytes]) -> None:
-        self._count += 1
-        if words[:1] == [b"p"]:
-            self._kind = words[3 if words[1] == b"aux" else 1].decode()
-        if words[:1] == [b"a"]:
-            for it, number in zip(self._columns, [self._count, *map(int, words[1:]), 0, 0]):
-                it.append(number)
-
-    def end(self) -> ArcLines:
-        """Ends the text, and returns its arc lines."""
-        self.take(b"\n")
-        return ArcLines(self._kind, *map(column, self._columns))

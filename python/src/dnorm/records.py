@@ -4,28 +4,25 @@ from __future__ import annotations
 
 import contextlib
 import functools
-import hashlib
 import json
 import os
 import time
 from collections.abc import Callable, Iterable, Iterator, Sequence
 from dataclasses import dataclass
 from operator import mul
-from typing import Any, Literal, NamedTuple, Optional, Union
+from typing import Literal, NamedTuple, Optional, Union
 
 from .answers import Form
-from .calls import canon_into, check
-from .causes import PROBLEM
+from .calls import SummedText, forms_of
 from .columns import Column, least_and_greatest, numpy_here
 from .errors import DnormError, Memory, Read, Refused
-from .files import Sink, Text, enough_memory, reason_of
+from .files import Text, enough_memory, reason_of
 from .instances import AnyInstance, Co, Graph, Min
-from .library import GRAPHS, Library, held
+from .library import GRAPHS, held
 from .limits import Limit
 from .names import COMPANIONS, KINDS, parts_of
 from .pairs import VALUES
-from .program import Program
-from .reader import Reader, instance_by
+from .reader import instance_by
 
 # The ends of the names of graphs that have companions.
 WITH_COMPANIONS = (".gr", ".sp")
@@ -185,13 +182,11 @@ class Partners:
 
 @dataclass(frozen=True)
 class Reading:
-    """How files are read: by this library, or else by the program. Checksums and sizes are those of the canonical text
-    in a `form`. A record tells the kind alone, or the checksum, too; or it is whole, or has contents besides. With
-    partners, companions are checked beside their graphs. If it is strict, a file with a remark has an error, and so has
-    one that takes more than `timeout` seconds."""
+    """How files are read. Checksums and sizes are those of the canonical text in a `form`. A record tells the kind
+    alone, or the checksum, too; or it is whole, or has contents besides. With partners, companions are checked beside
+    their graphs. If it is strict, a file with a remark has an error, and so has one that takes more than `timeout`
+    seconds."""
 
-    program: Program
-    library: Optional[Library]
     form: Form = 1
     partners: Optional[Partners] = None
     is_strict: bool = False
@@ -215,10 +210,7 @@ class Reading:
     def _accepted(self, name: str) -> Record:
         graphs = self.partners.graphs_of(name) if self.partners else None
         with enough_memory(name):
-            if self.library:
-                found = self._by_library(self.library, name, graphs)
-            else:
-                found = self._by_program(name, graphs)
+            found = self._read(name, graphs)
         expected = KINDS.get(parts_of(name)[1], found.kind)
         if expected != found.kind:
             found = found._replace(named=expected)
@@ -226,22 +218,22 @@ class Reading:
             raise Read(name, f"accepted {found.kind}, {', '.join(found.remarks)}")
         return found
 
-    def _by_library(self, library: Library, name: str, graphs: Optional[Sequence[str]]) -> Record:
+    def _read(self, name: str, graphs: Optional[Sequence[str]]) -> Record:
         limit = Limit(self.timeout, name)
         with contextlib.ExitStack() as stack:
             is_whole = self.tells in ("whole", "contents")
             text = SummedText(name, stack, limit) if is_whole else Text(name, stack, limit)
-            it = stack.enter_context(held(library, text))
+            it = stack.enter_context(held(text))
 
             def fit(graph: str) -> None:
                 with contextlib.ExitStack() as inner:
-                    inner.enter_context(held(library, Text(graph, inner, limit))).check_fit(it)
+                    inner.enter_context(held(Text(graph, inner, limit))).check_fit(it)
 
             found, checksum = Record(name, it.kind), functools.cache(it.checksum)
             if self.tells != "kind":
                 found = found._replace(checksum=checksum(self.form))
             if isinstance(text, SummedText):
-                found = found._replace(forms=forms_of(it.kind, text.sum, checksum))
+                found = found._replace(forms=forms_of(it.kind, text.checksum, checksum))
                 found = found._replace(bytes=text.size, declared=it.lines, canonical=it.count(self.form))
                 if it.kind in GRAPHS:
                     loops = it.loops(self.form)
@@ -250,40 +242,6 @@ class Reading:
                 found = found._replace(contents=contents_of(instance_by(it, self.form)))
             found = beside(found, graphs, fit)
         return found
-
-    def _by_program(self, name: str, graphs: Optional[Sequence[str]]) -> Record:
-        def fit(graph: str) -> None:
-            check(graph, name, program=self.program, timeout=self.timeout)
-
-        if self.tells == "kind":
-            return beside(Record(name, check(name, program=self.program, timeout=self.timeout).kind), graphs, fit)
-        reader, summed, begin, limit = Reader(name), hashlib.sha256(), Beginning(), Limit(self.timeout, name)
-
-        def take(piece: bytes) -> None:
-            summed.update(piece)
-            reader.take(piece)
-
-        canon_into(Sink("out", take), name, self.form, self.program, limit, begin.take)
-        it, declared = reader.end(), begin.declared
-
-        def checksum(form: Form) -> str:
-            if form == self.form:
-                return summed.hexdigest()
-            # The canonical text in one form has that of the other form.
-            other = hashlib.sha256()
-            canon_into(Sink("out", other.update), it, form, self.program, limit)
-            return other.hexdigest()
-
-        found = Record(name, it.kind, bytes=begin.size, declared=declared, canonical=len(it))
-        found = found._replace(checksum=checksum(self.form))
-        if self.tells != "checksum":
-            found = found._replace(forms=forms_of(it.kind, begin.sum, checksum))
-        if isinstance(it, Graph):
-            facts = facts_of(it)
-            found = found._replace(nodes=it.nodes, merged=declared - facts.pairs, self_loops=facts.self_loops)
-        if self.tells == "contents":
-            found = found._replace(contents=contents_of(it))
-        return beside(found, graphs, fit)
 
 
 def beside(found: Record, graphs: Optional[Sequence[str]], fit: Callable[[str], None]) -> Record:
@@ -301,108 +259,16 @@ def beside(found: Record, graphs: Optional[Sequence[str]], fit: Callable[[str], 
     return found if graphs is None else found._replace(graphs=tuple(fits), not_accepted=tuple(others))
 
 
-class Sum:
-    """The `checksum` of the bytes of a text that were read, or None if no canonical text begins as it does."""
-
-    def __init__(self) -> None:
-        self._sum, self._is_canonical, self._is_begun = hashlib.sha256(), True, False
-
-    def take(self, piece: bytes) -> None:
-        """Reads the next piece."""
-        if not self._is_begun:
-            self._is_begun, self._is_canonical = True, piece.startswith(b"p")
-        if self._is_canonical:
-            self._sum.update(piece)
-
-    @property
-    def checksum(self) -> Optional[str]:
-        return self._sum.hexdigest() if self._is_canonical else None
-
-
-class SummedText(Text):
-    """A text whose pieces are summed."""
-
-    def __init__(self, name: str, stack: contextlib.ExitStack, limit: Limit) -> None:
-        super().__init__(name, stack, limit)
-        self.sum = Sum()
-
-    def next_piece(self) -> Optional[bytes]:
-        piece = super().next_piece()
-        if piece:
-            self.sum.take(piece)
-        return piece
-
-
-def forms_of(kind: str, whole: Sum, checksum: Callable[[Form], str]) -> tuple[Form, ...]:
-    """Returns the forms in which a text is canonical, by its own checksum and those of its canonical texts."""
-
-    def is_canonical(form: Form) -> bool:
-        try:
-            return whole.checksum == checksum(form)
-        except Refused:
-            # The canonical text has too many lines.
-            return False
-
-    if whole.checksum is None:
-        return ()
-    forms: tuple[Form, ...] = (1, 2)
-    if kind == "min":
-        return tuple(filter(is_canonical, forms))
-    # Both forms are the same.
-    return forms if is_canonical(1) else ()
-
-
-class Beginning:
-    """The problem line of an accepted text: it `declared` so many counted lines. `size` is the number of bytes that the
-    text has so far, and `sum` their sum."""
-
-    def __init__(self) -> None:
-        self.declared = self.size = 0
-        self.sum = Sum()
-        self._rest: Optional[bytes] = b""
-
-    def take(self, piece: bytes) -> None:
-        """Reads the next piece."""
-        self.size += len(piece)
-        self.sum.take(piece)
-        if self._rest is None:
-            return
-        *lines, rest = (self._rest + piece).split(b"\n")
-        # A problem line without an LF ends the text, and declares no lines.
-        problem = next((it for it in lines if PROBLEM.match(it)), None)
-        if problem is not None:
-            self.declared, self._rest = int(problem.split()[-1]), None
-        else:
-            rest = rest.lstrip(b" \t\r")
-            self._rest = rest if rest.startswith(b"p") else rest[:1]
-
-
-class Facts(NamedTuple):
-    """How many pairs of a graph have arcs, how many arcs begin where they end, and how many nodes have no arcs."""
-
-    pairs: int
-    self_loops: int
-    without_arcs: int
-
-
-def facts_of(it: Graph) -> Facts:
-    """Returns facts of a graph whose arcs are in the order of the canonical text."""
-    np, tails, heads = numpy_here(), it.tails, it.heads
+def without_arcs(it: Graph) -> int:
+    """Returns how many nodes of a graph have no arcs."""
+    np = numpy_here()
     if np is None:
-        pairs = set(zip(tails.tolist(), heads.tolist()))
-        loops = sum(tail == head for tail, head in zip(tails.tolist(), heads.tolist()))
-        return Facts(len(pairs), loops, it.nodes - len({node for pair in pairs for node in pair}))
-    again = np.count_nonzero((tails[1:] == tails[:-1]) & (heads[1:] == heads[:-1]))
-    return Facts(len(it) - int(again), int(np.count_nonzero(tails == heads)), it.nodes - count_of_nodes(np, it))
-
-
-def count_of_nodes(np: Any, it: Graph) -> int:
-    """Returns how many nodes have arcs."""
+        return it.nodes - len({*it.tails.tolist(), *it.heads.tolist()})
     if it.nodes > SPARSE * len(it):
-        return len(np.union1d(it.tails, it.heads))
+        return it.nodes - len(np.union1d(it.tails, it.heads))
     has_arcs = np.zeros(it.nodes + 1, bool)
     has_arcs[it.tails] = has_arcs[it.heads] = True
-    return int(np.count_nonzero(has_arcs))
+    return it.nodes - int(np.count_nonzero(has_arcs))
 
 
 def contents_of(it: AnyInstance) -> Contents:
@@ -417,7 +283,7 @@ def contents_of(it: AnyInstance) -> Contents:
     caps = getattr(it, VALUES[it.kind].get("cap", ""), None)
     costly = sum(map(mul, it.caps.tolist(), map(abs, it.costs.tolist()))) if isinstance(it, Min) else None
     return Contents(
-        without_arcs=facts_of(it).without_arcs if isinstance(it, Graph) else None,
+        without_arcs=without_arcs(it) if isinstance(it, Graph) else None,
         capacity=sum(caps.tolist()) if caps is not None else None,
         capacity_times_cost=costly,
         supply=sum(flow for flow in flows if flow > 0) if isinstance(it, Min) else None,

@@ -1,22 +1,20 @@
-"""All differences between two texts, by the pairs of their canonical texts."""
+"""All differences between two texts, by the pairs of their instances."""
 
 from __future__ import annotations
 
 import contextlib
 import dataclasses
-import os
 from collections.abc import Iterator
 from typing import Optional, Union
 
-from .answers import AnyDifference, Same, compared, table
-from .calls import answer, canon_into
-from .files import File, Pieces, Sink, Text, enough_memory, name_of
+from .answers import AnyDifference, Same, table
+from .calls import both_read
+from .files import File, enough_memory, name_of
 from .instances import AnyInstance, Graph, Instance, Max, Min, whole
-from .library import GRAPHS, Held, Library, held, library_of
-from .limits import Limit, at_once
+from .library import GRAPHS
+from .limits import Limit
 from .pairs import Key, PairDifference, arcs_around, paired
-from .program import Program
-from .reader import Reader, instance_by
+from .reader import instance_by
 
 
 @dataclasses.dataclass(frozen=True, repr=False)
@@ -63,70 +61,27 @@ class Differences:
 
 
 def differences(
-    left: File, right: File, limit: Optional[int] = None, *, program: Program = None, timeout: Optional[float] = None
+    left: File, right: File, limit: Optional[int] = None, *, timeout: Optional[float] = None
 ) -> Differences:
     """Returns all differences between two texts, and the arcs of the first differing pairs, at most `limit` of them. It
-    keeps both canonical texts in memory."""
+    keeps both instances in memory."""
     if limit is not None and whole("limit", limit) < 0:
         raise ValueError(f"limit is at least 0, and not {limit}")
-    time, library = Limit(timeout, name_of(left)), library_of(program)
-    with enough_memory(time.name):
-        if library:
-            return by_library(library, (left, right), limit, time)
-        return by_program(program, (left, right), limit, time)
-
-
-def by_library(library: Library, files: tuple[File, File], limit: Optional[int], time: Limit) -> Differences:
-    """Returns how two texts differ, by the library, which reads each of them once."""
-    with contextlib.ExitStack() as later, contextlib.ExitStack() as sooner:
-        left, right = both_read(library, files, (sooner, later), time)
-        first, both = left.first_difference(right), left.pairs if left.kind in GRAPHS else left.lines
-        one = other = instance_by(left, 2)
+    time = Limit(timeout, name_of(left))
+    with enough_memory(time.name), contextlib.ExitStack() as later, contextlib.ExitStack() as sooner:
+        one, other = both_read((left, right), (sooner, later), time)
+        first, both = one.first_difference(other), one.pairs if one.kind in GRAPHS else one.lines
+        ours = theirs = instance_by(one, 2)
         # The library keeps the left text no longer than it is needed.
         sooner.close()
         if not first:
-            other = instance_by(right, 2)
+            theirs = instance_by(other, 2)
         later.close()
-    if first:
-        return Differences(first, one, other, one.kind, both=both)
-    return summary(first, one, other, limit, time)
-
-
-def both_read(
-    library: Library, files: tuple[File, File], stacks: tuple[contextlib.ExitStack, contextlib.ExitStack], time: Limit
-) -> tuple[Held, Held]:
-    """Reads two texts by the library, whose instances the stacks free: two files at the same time, and others one after
-    the other, as a pipe of the right one may be written only later."""
-
-    def read(file: File, stack: contextlib.ExitStack) -> Held:
-        return stack.enter_context(held(library, Text(file, stack, time)))
-
-    if not all(isinstance(it, (str, os.PathLike)) and os.path.isfile(it) for it in files):
-        left, right = (read(*it) for it in zip(files, stacks))
-        return left, right
-    text = Text(files[1], stacks[1], time)
-    return at_once(lambda: read(files[0], stacks[0]), lambda: stacks[1].enter_context(held(library, text)), text.stop)
-
-
-def by_program(program: Program, files: tuple[File, File], limit: Optional[int], time: Limit) -> Differences:
-    """Returns how two texts differ, by the program, which reads each of them once, and compares their canonical
-    texts."""
-    (left, one), (right, other) = (kept(program, it, time) for it in files)
-    first = answer(compared, lambda *names: ["compare", *names], [left, right], program, time)
-    return summary(first, one, other, limit, time)
-
-
-def kept(program: Program, file: File, limit: Limit) -> tuple[Pieces, AnyInstance]:
-    """Returns the canonical text of a text, by the program, and its instance."""
-    reader = Reader(name_of(file))
-    parts: list[bytes] = []
-
-    def take(piece: bytes) -> None:
-        reader.take(piece)
-        parts.append(piece)
-
-    canon_into(Sink("out", take), file, 2, program, limit)
-    return Pieces(reader.name, parts), reader.end()
+        if first:
+            found = Differences(first, ours, theirs, ours.kind, both=both)
+        else:
+            found = summary(first, ours, theirs, limit, time)
+    return found
 
 
 def summary(

@@ -15,7 +15,7 @@ from ..causes import REMEDIES, cause_of, quoted
 from ..console import for_terminal
 from ..errors import DnormError, NoProgram, Write
 from ..files import of_stream, reason_of
-from ..program import command as command_of
+from ..program import find_program
 from ..refusals import REFUSALS
 
 USAGE = """\
@@ -74,11 +74,11 @@ def say(fd: int, told: str, causes: Iterable[str]) -> None:
 
 def explain_run(words: Sequence[str]) -> int:
     """Runs the program with these words, and explains on standard error what it prints there."""
-    program = command_of(None)
+    program = find_program()
     try:
-        ran = subprocess.run([*program, *words], stderr=subprocess.PIPE, check=False)
+        ran = subprocess.run([program, *words], stderr=subprocess.PIPE, check=False)
     except OSError as error:
-        raise NoProgram(program[0], reason_of(error)) from error
+        raise NoProgram(program, reason_of(error)) from error
     for told in lines_of(os.fsdecode(ran.stderr)):
         say(2, told, wrong_words(words) if told == WRONG[0] else causes_of(told))
     return ran.returncode if ran.returncode >= 0 else 128 - ran.returncode

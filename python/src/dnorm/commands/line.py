@@ -15,24 +15,25 @@ from .. import __version__
 from ..console import SIGNALS, Console, Stopped, for_terminal, has_output, heed, number
 from ..errors import DnormError, Read, Refused, Write
 from ..files import failing
+from ..library import find_library
 from ..limits import LONGEST
 from ..names import ENDINGS
-from ..program import page, processors, version
+from ..program import page, processors
 from ..records import Record
 from .reports import cause_of, line_of
 from .tasks import FAILED, REFUSED, USAGE, Run
 
-ABOUT = "Runs the program dnorm on many files at the same time."
+ABOUT = "Checks, lists and compares many files of DIMACS texts at the same time."
 STATUSES = """\
 exit statuses:
   0  success
   1  manifest --verify: a checksum differs, a file is gone or is not listed; compare: the files differ
   2  a file is refused
   3  the command line is refused
-  4  a file cannot be read, a folder has no such file, or dnorm cannot be run
+  4  a file cannot be read, a folder has no such file, or there is no library
 The greatest one that applies counts.
 
-$DNORM names the program, or a command that runs it; $DNORM_LIBRARY the library, or is none for no library.
+$DNORM_LIBRARY names the library libdnorm that reads the files, by default the one that came with this command.
 """
 # Commands of the program, and what is an option here.
 OTHER_COMMANDS = {it: f"{it} is a command of the program: dnorm {it} FILE" for it in ("canon", "show")}
@@ -78,8 +79,6 @@ def parser() -> Parser:
             about = "files at the same time, by default one for each processor"
             one.add_argument("-j", "--jobs", type=number(1), default=processors(), metavar="N", help=about)
         one.add_argument("--timeout", type=seconds, metavar="SECONDS", help="a file that takes longer is a failure")
-        about = "the program, by default $DNORM, the one that pip installed, or dnorm on PATH"
-        one.add_argument("--program", metavar="PROGRAM", help=about)
     return top
 
 
@@ -231,7 +230,7 @@ def main(words: Sequence[str] | None = None) -> int:
     try:
         if not is_open:
             raise Write("out")
-        version(found.program)
+        find_library()
         if "path" in found:
             found.path = named(found)
         run = Run(found, console)

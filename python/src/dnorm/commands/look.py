@@ -21,6 +21,7 @@ from ..pairs import Arcs, PairDifference
 from ..program import WEB, placed
 from ..records import SIZES, Record
 from ..summary import Differences
+from .reports import counted
 
 # How many corners of a curve, arcs of a pair, and pairs around a pair a page has; how many causes, and files of one;
 # and how many names in another list.
@@ -132,9 +133,10 @@ def arcs(found: Arcs, between: str) -> str:
 def costs_of(first: Difference, pair: PairDifference) -> dict[str, object]:
     """Returns the difference and the curves as web/look.js takes them, with numbers as texts."""
     numbers = {"at": pair.key[0], "to": pair.key[1], "amount": first.amount, "left": first.left, "right": first.right}
-    curves = [[[str(n) for n in corner] for corner in curve[:CORNERS]] for curve in pair.curves()]
-    cut = CORNERS if any(len(it) > CORNERS for it in pair.curves()) else 0
-    return {**{it: None if n is None else str(n) for it, n in numbers.items()}, "curves": curves, "cut": cut}
+    curves = pair.curves()
+    drawn = [[[str(n) for n in corner] for corner in curve[:CORNERS]] for curve in curves]
+    cut = CORNERS if any(len(it) > CORNERS for it in curves) else 0
+    return {**{it: None if n is None else str(n) for it, n in numbers.items()}, "curves": drawn, "cut": cut}
 
 
 def remarks_of(found: Differences) -> list[str]:
@@ -164,17 +166,10 @@ def around(found: Differences, pair: PairDifference) -> dict[str, object]:
 
 def page_of_folder(it: Collection, folder: str, status: int, changes: Optional[Changes]) -> str:
     """Returns the page of what is in a folder, and what has changed there since a manifest."""
-    told = [f"{n} {name.replace('_', ' ')}" for name, n in it.counts.items() if n or name in ("accepted", *COLOURS)]
     kinds, groups = Counter(one.kind or one.status for one in it.records), groups_of(it.records)
     parts = [section("Kinds", bar((name, kinds[name], colour) for name, colour in COLOURS.items()))]
     if changes:
-        renamed = [f"{old} is now {new}" for old, new in changes.renamed]
-        lists = {"changed": changes.changed, "renamed": renamed, "new": changes.new, "gone": changes.gone}
-        same = sum(map(bool, it.manifest.checksums)) - sum(len(lists[name]) for name in ("changed", "renamed", "new"))
-        colours = {"changed": "two", "renamed": "one", "new": "three", "gone": "bad"}
-        counts = [("the same", same, "soft"), *((name, len(names), colours[name]) for name, names in lists.items())]
-        told_lists = (folded(name, names) for name, names in lists.items())
-        parts.append(section("Since the manifest, of accepted files", bar(counts), *told_lists))
+        parts.append(section("Since the manifest, of accepted files", *since(it, changes)))
     parts += [section("Sizes", "<div id=sizes></div>"), section("Refused and failed files", *refusals(it.records))]
     parts.append(
         section(f"Groups of files of one problem: {len(groups)}", *(folded(one[0], one, FILES) for one in groups[:50]))
@@ -185,8 +180,23 @@ def page_of_folder(it: Collection, folder: str, status: int, changes: Optional[C
     parts.append(section("Remarks", *(folded(remark, names, FILES) for remark, names in noted.items())))
     parts.append(section("Files", "<div id=files></div>"))
     is_good = status == 0 and it.counts["accepted"] > 0
-    sentence = f"{', '.join(told)}; status {status}"
+    sentence = f"{counted(it.counts, ('accepted', 'refused', 'failed'))}; status {status}"
     return page(f"Collection {folder}", is_good, sentence, parts, table_of(it, groups, changes))
+
+
+def since(it: Collection, changes: Changes) -> list[str]:
+    """Returns what has changed since a manifest. A file that is refused now, or fails, is not gone."""
+    faulty = {one.name for one in it.records if one.error}
+    lists = {
+        "changed": ("two", changes.changed),
+        "renamed": ("one", [f"{old} is now {new}" for old, new in changes.renamed]),
+        "new": ("three", changes.new),
+        "not accepted now": ("worst", [name for name in changes.gone if name in faulty]),
+        "gone": ("bad", [name for name in changes.gone if name not in faulty]),
+    }
+    same = len(it.manifest.checksums) - sum(len(lists[name][1]) for name in ("changed", "renamed", "new"))
+    counts = ((name, len(names), colour) for name, (colour, names) in lists.items())
+    return [bar([("the same", same, "soft"), *counts]), *(folded(name, names) for name, (_, names) in lists.items())]
 
 
 def cause_of(it: Record) -> str:
@@ -229,17 +239,17 @@ def groups_of(records: Sequence[Record]) -> list[list[str]]:
 def table_of(it: Collection, groups: Sequence[Sequence[str]], changes: Optional[Changes]) -> dict[str, object]:
     """Returns the data of the table of files, in columns: a text of all names by lines, and of all other cells by
     blanks. Causes and remarks are numbers of a list."""
-    kinds, since = [*COLOURS], dict[str, int]()
+    kinds, changed_as = [*COLOURS], dict[str, int]()
     places = {name: at for at, names in enumerate(groups, 1) for name in names}
     if changes:
         for at, changed in enumerate((changes.new, changes.changed, tuple(new for _, new in changes.renamed)), 1):
-            since.update(dict.fromkeys(changed, at))
+            changed_as.update(dict.fromkeys(changed, at))
     notes = [cause_of(one) or "; ".join(remark.partition(":")[0] for remark in one.remarks) for one in it.records]
     numbers = {note: at for at, note in enumerate(dict.fromkeys(notes))}
     columns: dict[str, Iterable[Optional[int]]] = {"kind": (kinds.index(one.kind or one.status) for one in it.records)}
     columns |= {"note": map(numbers.__getitem__, notes), "group": (places.get(one.name) for one in it.records)}
     columns |= {size: [getattr(one, size) for one in it.records] for size in SIZES}
-    columns |= {"since": (since.get(one.name) for one in it.records)} if changes else {}
+    columns |= {"since": (changed_as.get(one.name) for one in it.records)} if changes else {}
     told: dict[str, object] = {
         name: " ".join("" if n is None else str(n) for n in cells) for name, cells in columns.items()
     }

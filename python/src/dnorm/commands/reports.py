@@ -6,7 +6,7 @@ import csv
 import io
 import os
 import re
-from collections.abc import Iterator, Sequence
+from collections.abc import Container, Iterator, Mapping, Sequence
 from xml.etree import ElementTree
 
 from ..errors import Refused
@@ -23,11 +23,27 @@ HEADS = ["name", "kind", *SIZES, *(it for it in Contents._fields if it != "field
 HEADS += [f"{it}_{of}" for it in FIELDS for of in Range._fields]
 # The letters of the lines that tell arcs, points and items, and what these are called.
 LINES = {"co": ("v", "points"), "ss": ("s", "items"), "p2p": ("q", "items")}
+# How what is counted is told, one and several. All else is told by its name.
+TOLD = {
+    "same": ("the same", "the same"), "groups": ("group", "groups"), "links": ("link", "links"),
+    "other_files": ("other file", "other files"),
+    "without_graph": ("companion without a graph", "companions without a graph"),
+    "graph_not_accepted": (
+        "companion of a graph that is not accepted", "companions of graphs that are not accepted",
+    ),
+    "other_kind": ("file of another kind than its ending", "files of another kind than their endings"),
+}  # fmt: skip
 # Characters that XML cannot contain, and half characters, by which Python represents the bytes of names that are not
 # UTF-8.
 NO_XML = re.compile("[^\t\n\r\x20-\ud7ff\ue000-\ufffd\U00010000-\U0010ffff]")
 # What a message of GitHub and its properties cannot contain.
 NO_MESSAGE, NO_PROPERTY = re.compile("[%\r\n]"), re.compile("[%\r\n:,]")
+
+
+def counted(counts: Mapping[str, int], always: Container[str]) -> str:
+    """Returns counts in words: those above 0, and those that are always told."""
+    told = [f"{n} {TOLD.get(it, (it,) * 2)[n != 1]}" for it, n in counts.items() if n or it in always]
+    return ", ".join(told).replace("_", " ")
 
 
 def line_of(it: Record) -> str:

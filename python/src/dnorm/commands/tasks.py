@@ -15,16 +15,14 @@ from ..console import Console
 from ..errors import Read
 from ..files import reason_of, sink_of
 from ..folders import Collection, Found, find, in_order_of_names
-from ..library import library_of
 from ..manifests import Entry, Mark, line_with, manifest_changes, manifest_in, mark_of, read_manifest
 from ..manifests import renewed
 from ..manifests import text_of as text_of_manifest
-from ..program import absolute
 from ..records import Partners, Reading, Record, Tells, counts_of
 from ..summary import differences
 from .look import page_of_folder, page_of_pair
-from .reports import annotation_of, cause_of, junit, line_of, lines_of_differences, record_of_differences, row_of
-from .reports import text_of
+from .reports import annotation_of, cause_of, counted, junit, line_of, lines_of_differences, record_of_differences
+from .reports import row_of, text_of
 from .staged import staged
 from .workers import Workers
 
@@ -34,16 +32,6 @@ DIFFERS, REFUSED, USAGE, FAILED = 1, 2, 3, 4
 # What the accepted files are called at the end, by the commands.
 DONE = {"check": "accepted", "manifest": "listed", "verify": "same", "same": "accepted", "list": "listed"}
 DONE["look"] = "accepted"
-# How what is counted is told, one and several. All else is told by its name.
-TOLD = {
-    "same": ("the same", "the same"), "groups": ("group", "groups"), "links": ("link", "links"),
-    "other_files": ("other file", "other files"),
-    "without_graph": ("companion without a graph", "companions without a graph"),
-    "graph_not_accepted": (
-        "companion of a graph that is not accepted", "companions of graphs that are not accepted",
-    ),
-    "other_kind": ("file of another kind than its ending", "files of another kind than their endings"),
-}  # fmt: skip
 # What is told also if there is none of it.
 ALWAYS = {*DONE.values(), "different", "refused", "failed"}
 
@@ -60,7 +48,7 @@ class Run:
     what has no record."""
 
     def __init__(self, words: Namespace, console: Console) -> None:
-        self.words, self.console, self.library = words, console, library_of(words.program)
+        self.words, self.console = words, console
         self.records: list[Record] = []
         self.own = self.others = self.excluded = 0
         # How many files are done, if not all of them; what takes the results that a signal has left; and what prints
@@ -83,7 +71,7 @@ class Run:
         """Returns how checksums are read, and with them what JSON has."""
         words = self.words
         tells: Tells = "whole" if self.is_json else "checksum"
-        return Reading(words.program, self.library, words.form, tells=tells, timeout=words.timeout)
+        return Reading(words.form, tells=tells, timeout=words.timeout)
 
     def check(self) -> None:
         """Checks files, and prints a line for each, and at the end the refusals with their causes."""
@@ -93,7 +81,7 @@ class Run:
             report = stack.enter_context(sink_of(words.junit)) if words.junit else None
             partners = self.partners(found) if words.companions else None
             tells: Tells = "whole" if self.is_json else "kind"
-            reading = Reading(words.program, self.library, 1, partners, words.strict, tells, words.timeout)
+            reading = Reading(1, partners, words.strict, tells, words.timeout)
             self.print_rest = self.print_end
             self.read(found, reading.record, self.print_record)
             if report:
@@ -113,7 +101,7 @@ class Run:
         """Returns the texts that git has staged."""
         words = self.words
         # The texts are in another folder, which becomes the current one.
-        words.program, words.junit = absolute(words.program), words.junit and os.path.abspath(words.junit)
+        words.junit = words.junit and os.path.abspath(words.junit)
         return staged(words.staged or None, stack)
 
     def sum_up_checks(self) -> None:
@@ -181,7 +169,7 @@ class Run:
         files that the paths name and the manifest does not."""
         entries = self.listed(self.words.verify)
         form = next(it.form for it in entries.values())
-        reading = Reading(self.words.program, self.library, form, tells="checksum", timeout=self.words.timeout)
+        reading = Reading(form, tells="checksum", timeout=self.words.timeout)
         counts: Counter[str] = Counter()
 
         def take(it: Record) -> None:
@@ -267,7 +255,7 @@ class Run:
     def list(self) -> None:
         """Prints what each file contains."""
         words, rows = self.words, 0
-        reading = Reading(words.program, self.library, words.form, tells="contents", timeout=words.timeout)
+        reading = Reading(words.form, tells="contents", timeout=words.timeout)
 
         def take(it: Record) -> None:
             nonlocal rows
@@ -288,7 +276,7 @@ class Run:
         words = self.words
         with open(0, "rb", buffering=0, closefd=False) as stream:
             left, right = (stream if it == "-" else it for it in (words.left, words.right))
-            found = differences(left, right, words.limit, program=words.program, timeout=words.timeout)
+            found = differences(left, right, words.limit, timeout=words.timeout)
         if words.json:
             self.console.print(json.dumps(record_of_differences(found)) + "\n")
         elif not words.quiet:
@@ -300,7 +288,7 @@ class Run:
         words = self.words
         if len(words.path) == 2:
             left, right = words.path
-            compared = differences(left, right, 50, program=words.program, timeout=words.timeout)
+            compared = differences(left, right, 50, timeout=words.timeout)
             self.console.print(page_of_pair(compared, left, right))
             self.own = 0 if compared.first else DIFFERS
             return
@@ -308,7 +296,7 @@ class Run:
         form = older.form if older else words.form
         found = find(words.path, words.ending, words.exclude)
         self.others, self.excluded = len(found.others), found.excluded
-        reading = Reading(words.program, self.library, form, self.partners(found), timeout=words.timeout)
+        reading = Reading(form, self.partners(found), timeout=words.timeout)
         self.read(found, reading.record, lambda _: None)
         collection = Collection(tuple(self.records), found.others, found.excluded, form)
         changes = manifest_changes(older, collection.manifest) if older else None
@@ -393,6 +381,5 @@ class Run:
         if self.is_json:
             ended = {"status": self.status, "form": self.words.form, "unfinished": self.unfinished or None}
             self.console.print(json.dumps({"summary": {**counts, **ended}}) + "\n")
-        told = [f"{n} {TOLD.get(it, (it,) * 2)[n != 1]}" for it, n in counts.items() if n or it in ALWAYS]
-        told += [self.unfinished] if self.unfinished else []
-        self.console.complain(", ".join(told).replace("_", " ") + "\n")
+        told = [counted(counts, ALWAYS), *([self.unfinished] if self.unfinished else [])]
+        self.console.complain(", ".join(told) + "\n")

@@ -7,8 +7,7 @@ from collections.abc import Callable, Sequence
 from queue import Empty, SimpleQueue
 from typing import Generic, TypeVar
 
-from ..console import heeding_signals
-from ..program import children
+from ..limits import heeding_signals
 
 # How many tasks begin before the result of the first one is taken, and the longest wait, in seconds: a signal that
 # comes just before a wait does not end it.
@@ -72,10 +71,9 @@ class Workers(Generic[Item, Result]):
         return found
 
     def stop(self) -> list[tuple[int, Result]]:
-        """Kills the processes that run, and lets no thread begin another item. Returns the results that were not taken,
-        with the places of their items."""
+        """Lets no thread begin another item. Returns the results that were not taken, with the places of their
+        items."""
         self._is_stopped = True
-        children.stop()
         while not self._came.empty():
             self._done.update([self._came.get()])
         return [(at, it) for at, it in sorted(self._done.items()) if not isinstance(it, BaseException)]

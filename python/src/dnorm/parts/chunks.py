@@ -13,6 +13,7 @@ from __future__ import annotations
 import contextlib
 import os
 import re
+import subprocess
 from argparse import Namespace
 from collections.abc import Iterator, Sequence
 from concurrent.futures import FIRST_EXCEPTION, ThreadPoolExecutor, wait
@@ -22,9 +23,10 @@ from typing import BinaryIO, NamedTuple
 
 from ..console import Console
 from ..errors import DnormError, Memory, Refused, Write
-from ..files import Sink, write_all
-from ..program import children
-from .part import ARC, BLOCK, Piece, Result, blocks, canon, canon_part, lines, whole
+from ..files import write_all
+from ..limits import heeding_signals
+from .part import ARC, BLOCK, Piece, Result, blocks, canon_part, lines, whole
+from .runs import canon, children
 
 # A line whose first word is `p`.
 PROBLEM = re.compile(rb"^[ \t\r]*p[ \t\r].*", re.M)
@@ -137,7 +139,7 @@ class Parts:
         text = (block for path in paths for block in blocks(whole(path)))
         try:
             with open(1, "wb", buffering=0, closefd=False) as out:
-                canon(self.program, text, self.options.form, Sink("out", len, out))
+                canon(self.program, text, self.options.form, out)
         except Refused as error:
             return self.stop(error.rest)
         if not self.has_output:
@@ -169,7 +171,7 @@ class Parts:
         with open(first.path, "rb") as chunk:
             arc = chunk.readline()
         try:
-            canon(self.program, chain(lines(whole(self.head)), [arc]), 1, Sink("out", len))
+            canon(self.program, chain(lines(whole(self.head)), [arc]), 1, subprocess.DEVNULL)
         except Refused as error:
             if error.number == 19:
                 self.missing = error.rest
@@ -191,12 +193,13 @@ class Parts:
         self.console.expect(len(parts))
         with ThreadPoolExecutor(self.options.jobs) as pool:
             try:
-                futures = [pool.submit(one, *it) for it in parts]
-                rest = set(futures)
-                while rest:
-                    done, rest = wait(rest, PAUSE, FIRST_EXCEPTION)
-                    for it in done:
-                        it.result()
+                with heeding_signals():
+                    futures = [pool.submit(one, *it) for it in parts]
+                    rest = set(futures)
+                    while rest:
+                        done, rest = wait(rest, PAUSE, FIRST_EXCEPTION)
+                        for it in done:
+                            it.result()
             except BaseException as error:
                 children.stop()
                 pool.shutdown(wait=False, cancel_futures=True)
@@ -263,7 +266,7 @@ class Parts:
         at = f"{self.folder}/head.canon"
         problem = f"p {self.kind} {self.nodes} 0".encode()
         with open(at, "wb") as head:
-            canon(self.program, (PROBLEM.sub(problem, it, 1) for it in lines(whole(self.head))), 1, Sink("", len, head))
+            canon(self.program, (PROBLEM.sub(problem, it, 1) for it in lines(whole(self.head))), 1, head)
         with open(at, "rb") as head:
             end = len(head.readline())
         count = sum(it.made for it in results)

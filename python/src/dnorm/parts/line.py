@@ -16,8 +16,9 @@ from typing import Any, NoReturn
 from ..console import SIGNALS, Console, Stopped, has_output, heed, number
 from ..errors import DnormError, Memory, Write
 from ..files import reason_of
-from ..program import children, command, processors
+from ..program import find_program, processors
 from .chunks import Ended, Parts, fail
+from .runs import children
 
 ABOUT = """\
 Writes the canonical text of a graph in parts: the bytes that `dnorm canon FILE` writes, without a process that keeps
@@ -84,18 +85,10 @@ def version_of(program: str) -> str:
     return found.removeprefix("dnorm ")
 
 
-def installed() -> str:
-    """Returns the program that the package finds."""
-    words = command(None)
-    if len(words) > 1:
-        raise fail(3, "--program names the program itself, and not a command that runs it")
-    return words[0]
-
-
-def run(words: Sequence[str], beside: str | None, has_input: bool, is_open: bool) -> None:
-    """Runs the command, by the program beside the script, or else by the one that the package finds."""
+def run(words: Sequence[str], has_input: bool, is_open: bool) -> None:
+    """Runs the command."""
     found = parser().parse_args(words)
-    program = os.path.abspath(found.program or beside or installed())
+    program = os.path.abspath(found.program or find_program())
     version = version_of(program)
     if found.version:
         Console().print(f"canon-in-parts (dnorm) {version}")
@@ -150,8 +143,8 @@ def open_input(name: str, has_input: bool) -> None:
         raise Ended(4, f"{name}: 31 Read") from None
 
 
-def main(words: Sequence[str] | None = None, beside: str | None = None) -> int:
-    """Runs the command, and returns the exit status. `beside` is the program beside the script."""
+def main(words: Sequence[str] | None = None) -> int:
+    """Runs the command, and returns the exit status."""
     try:
         os.fstat(0)
         has_input = True
@@ -161,7 +154,7 @@ def main(words: Sequence[str] | None = None, beside: str | None = None) -> int:
     heed()
     status, line = 0, ""
     try:
-        run(sys.argv[1:] if words is None else words, beside, has_input, is_open)
+        run(sys.argv[1:] if words is None else words, has_input, is_open)
     except Ended as ended:
         status, line = ended.status, ended.line
     except Stopped as stopped:

@@ -4,14 +4,12 @@ from __future__ import annotations
 
 import os
 import re
-from collections.abc import Iterable, Iterator, Sequence
+from collections.abc import Iterator, Sequence
 from itertools import chain
 from typing import NamedTuple
 
-from ..calls import canon_into
 from ..errors import Refused
-from ..files import Pieces, Sink
-from ..limits import Limit
+from .runs import canon
 
 # The number of bytes that are read at a time.
 BLOCK = 1 << 20
@@ -89,18 +87,13 @@ def front(kind: str, nodes: int, arcs: int) -> bytes:
     return b"p min %d %d\na 1 1 0 0 0\n" % (nodes, arcs + 1)
 
 
-def canon(program: str, text: Iterable[bytes], form: int, sink: Sink) -> None:
-    """Writes the canonical text of a text in blocks into a sink."""
-    canon_into(sink, Pieces("-", text), form, program, Limit(None, "-"))
-
-
 def canon_part(program: str, kind: str, nodes: int, form: int, pieces: Sequence[Piece], to: str) -> Result:
     """Writes the canonical text of a part into a file, and returns the result."""
     arcs = sum(arcs_in(block) for piece in pieces for block in lines(piece))
     head = front(kind, nodes, arcs)
     with open(to, "wb") as file:
         try:
-            canon(program, chain([head], *map(blocks, pieces)), form, Sink("out", len, file))
+            canon(program, chain([head], *map(blocks, pieces)), form, file)
         except Refused as error:
             if error.line is None:
                 raise
