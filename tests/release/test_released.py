@@ -573,6 +573,8 @@ def test_counts_of_check(folder: str, heeded: None, failing: str, line: str) -> 
         write(failing, STANDS.replace("1 passed, 0 failed'", "0 passed, 1 failed'; exit 1"))
     found = run(["./check"], env=own)
     assert (found.out.decode().splitlines()[-1], found.status) == (line, 1 if failing else 0), found
+    told = found.out.decode().splitlines()[-3:-1] if failing else []
+    assert [os.path.basename(failing) in it for it in told] == [True, False][: len(told)], "what failed is told last"
     assert os.listdir("temporary") == []
 
 
