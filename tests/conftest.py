@@ -5,6 +5,7 @@ import importlib.util
 import os
 import signal
 import sys
+from collections import Counter
 from collections.abc import Iterator
 from typing import TextIO
 
@@ -22,6 +23,7 @@ LOCK = pytest.StashKey[TextIO]()
 def pytest_addoption(parser: pytest.Parser) -> None:
     parser.addoption("--program", help="the program that is tested, by default what tools/program names")
     parser.addoption("--quick", action="store_true", help="run the tests that find most wrong answers in a short time")
+    parser.addoption("--every", type=int, default=1, metavar="N", help="run each Nth case of a test")
 
 
 def pytest_configure(config: pytest.Config) -> None:
@@ -30,11 +32,15 @@ def pytest_configure(config: pytest.Config) -> None:
 
 
 def pytest_collection_modifyitems(config: pytest.Config, items: list[pytest.Item]) -> None:
-    """Leaves out what a quick run does not do, and moves what runs alone to the end."""
-    if config.getoption("--quick"):
-        config.hook.pytest_deselected(items=[it for it in items if it.get_closest_marker("whole")])
-        items[:] = [it for it in items if not it.get_closest_marker("whole")]
-    items.sort(key=lambda it: it.get_closest_marker("alone") is not None)
+    """Leaves out what a quick run and one of each Nth case do not do, and moves what runs alone to the end."""
+    every, is_quick = config.getoption("--every"), config.getoption("--quick")
+    before, chosen, left_out = Counter[str](), list[pytest.Item](), list[pytest.Item]()
+    for it in items:
+        test = it.nodeid.partition("[")[0]
+        (left_out if before[test] % every or is_quick and it.get_closest_marker("whole") else chosen).append(it)
+        before[test] += 1
+    config.hook.pytest_deselected(items=left_out)
+    items[:] = sorted(chosen, key=lambda it: it.get_closest_marker("alone") is not None)
 
 
 def pytest_runtest_setup(item: pytest.Item) -> None:

@@ -140,10 +140,17 @@ def at_length(tested: str, emulated: Emulated) -> Emulated:
     return emulated
 
 
-def passes(program: str, name: str, top: str = f"{ROOT}/tests", python: Sequence[str] = (), **own: str) -> None:
+def passes(
+    program: str,
+    name: str,
+    options: Sequence[str] = (),
+    top: str = f"{ROOT}/tests",
+    python: Sequence[str] = (),
+    **own: str,
+) -> None:
     """Runs tests on a program, without those that measure times. What they skip, they skip on purpose."""
     words = [*(python or [sys.executable]), "-m", "pytest", "-q", "-m", "not alone", "-pno:cacheprovider", "-pno:xdist"]
-    words += [f"--rootdir={top}", f"{top}/{name}"]
+    words += [f"--rootdir={top}", f"{top}/{name}", *options]
     environment = {it: value for it, value in os.environ.items() if it != "CI"} | own
     ran = run([*words, f"--program={program}"], limit=MOST, env=environment)
     assert ran.status == 0, ran.out.decode()
@@ -178,13 +185,13 @@ def test_c_functions(emulated: Emulated, folder: str, build: str) -> None:
 
 
 def test_random_texts(at_length: Emulated) -> None:
-    passes(at_length.program, "program/test_search.py")
+    passes(at_length.program, "program/test_search.py", ["--quick"])
 
 
-@pytest.mark.parametrize("name", ["answers", "memory"])
-def test_preloaded(at_length: Emulated, folder: str, name: str) -> None:
-    """Reads and writes of one byte, and allocations that are refused. For this a test preloads a library, which has to
-    be compiled for aarch64."""
+@pytest.mark.parametrize("name, every", [("answers", 1), ("memory", 5)])
+def test_preloaded(at_length: Emulated, folder: str, name: str, every: int) -> None:
+    """Reads and writes of one byte, and allocations that are refused, on each fifth text, since each of a command takes
+    a run. For this a test preloads a library, which has to be compiled for aarch64."""
     object, functions = at_length.beside("dnorm.o"), f"{ROOT}/c/runtime-aarch64.c"
     if not os.path.exists(object):
         pass_over(object)
@@ -199,7 +206,7 @@ def test_preloaded(at_length: Emulated, folder: str, name: str) -> None:
     for it in ["tests", "examples/refused"]:
         shutil.copytree(f"{ROOT}/{it}", it)
     path = f"{folder}/tools:{os.environ['PATH']}"
-    passes(f"{folder}/tools/dnorm", f"program/test_{name}.py", f"{folder}/tests", PATH=path)
+    passes(f"{folder}/tools/dnorm", f"program/test_{name}.py", [f"--every={every}"], f"{folder}/tests", PATH=path)
 
 
 def test_library_in_c(at_length: Emulated, folder: str) -> None:
