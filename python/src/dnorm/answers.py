@@ -6,7 +6,7 @@ import html
 from collections.abc import Iterable, Sequence
 from dataclasses import dataclass
 from itertools import islice
-from typing import TYPE_CHECKING, Literal, Optional, Union
+from typing import TYPE_CHECKING, Generic, Literal, Optional, TypeVar, Union
 
 # A canonical form.
 Form = Literal[1, 2]
@@ -100,51 +100,31 @@ class Difference:
 
 if TYPE_CHECKING:
     # What a type checker knows of a difference once it knows `what` differs. There is one class only.
+    What = TypeVar("What", bound=str)
+    Value = TypeVar("Value", bound=Union[int, str, None])
+    Node = TypeVar("Node", bound=Optional[int])
+    Pair = TypeVar("Pair", bound=Optional[tuple[int, int]])
+    Amount = TypeVar("Amount", bound=Optional[int])
+    Place = TypeVar("Place", bound=Optional[int])
 
-    class KindDifference(Difference):
-        what: Literal["kind"]
-        left: str
-        right: str
+    class Known(Difference, Generic[What, Value, Node, Pair, Amount, Place]):
+        what: What
+        left: Value
+        right: Value
+        node: Node
+        pair: Pair
+        amount: Amount
+        place: Place
 
-    class NumberDifference(Difference):
-        what: Literal["nodes", "source", "sink", "items"]
-        left: int
-        right: int
-
-    class SupplyDifference(Difference):
-        what: Literal["supply"]
-        left: int
-        right: int
-        node: int
-
-    class CapacityDifference(Difference):
-        what: Literal["capacity"]
-        left: int
-        right: int
-        pair: tuple[int, int]
-
-    class LengthDifference(Difference):
-        what: Literal["length"]
-        left: Optional[int]
-        right: Optional[int]
-        pair: tuple[int, int]
-
-    class CostDifference(Difference):
-        what: Literal["cost"]
-        left: Optional[int]
-        right: Optional[int]
-        pair: tuple[int, int]
-        amount: int
-
-    class ItemDifference(Difference):
-        what: Literal["item"]
-        place: int
-
-    class PointDifference(Difference):
-        what: Literal["point"]
-        node: int
-
-    OfNumbers = Union[NumberDifference, SupplyDifference, CapacityDifference, LengthDifference, CostDifference]
-    AnyDifference = Union[KindDifference, OfNumbers, ItemDifference, PointDifference]
+    AnyDifference = Union[
+        Known[Literal["kind"], str, None, None, None, None],
+        Known[Literal["nodes", "source", "sink", "items"], int, None, None, None, None],
+        Known[Literal["supply"], int, int, None, None, None],
+        Known[Literal["capacity"], int, None, tuple[int, int], None, None],
+        Known[Literal["length"], Optional[int], None, tuple[int, int], None, None],
+        Known[Literal["cost"], Optional[int], None, tuple[int, int], int, None],
+        Known[Literal["item"], None, None, None, None, int],
+        Known[Literal["point"], None, int, None, None, None],
+    ]
 else:
     AnyDifference = Difference

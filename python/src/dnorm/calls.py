@@ -118,14 +118,13 @@ def both_read(
     """Reads two texts, whose instances the stacks free: two files at the same time, and others one after the other, as
     a pipe of the right one may be written only later."""
 
-    def read(file: File, stack: contextlib.ExitStack) -> Held:
-        return stack.enter_context(held(Text(file, stack, limit)))
+    def read(at: int) -> Held:
+        return stacks[at].enter_context(held(Text(files[at], stacks[at], limit)))
 
     if not all(isinstance(it, (str, os.PathLike)) and os.path.isfile(it) for it in files):
-        left, right = (read(*it) for it in zip(files, stacks))
-        return left, right
+        return read(0), read(1)
     text = Text(files[1], stacks[1], limit)
-    return at_once(lambda: read(files[0], stacks[0]), lambda: stacks[1].enter_context(held(text)), text.stop)
+    return at_once(lambda: read(0), lambda: stacks[1].enter_context(held(text)), text.stop)
 
 
 class SummedText(Text):

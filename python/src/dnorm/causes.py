@@ -6,15 +6,14 @@ import contextlib
 import os
 import re
 from collections.abc import Callable, Iterator
-from contextlib import AbstractContextManager
 from itertools import islice
 from typing import NamedTuple
 
 from .compressed import SIZE
 from .names import ending_of
 
-# Opens a text, and yields its pieces.
-Opener = Callable[[], AbstractContextManager["Iterator[bytes]"]]
+# Begins a text, and yields its pieces.
+Opener = Callable[[], "Iterator[bytes]"]
 
 # How many bytes of a line are kept and shown.
 KEPT, SHOWN = 4096, 200
@@ -111,27 +110,20 @@ def lines_of(pieces: Iterator[bytes]) -> Iterator[bytes]:
 def cause_of(text: Opener, name: str | None, line: int | None, number: int, node: int | None = None) -> Cause:
     """Returns the cause of a refusal, by its line, its number and its node. `name` is that of the file, if the bytes of
     the file are the text: hints have commands then."""
-    with text() as pieces:
-        head = next(pieces, b"")
-    with text() as pieces:
-        refused, problem = scanned(lines_of(pieces), line)
-    hints = [*hints_of_bytes(head[:SIZE], refused, name)]
+    head = next(text(), b"")
+    refused, problem = scanned(lines_of(text()), line)
+    hints = [hint(*found, name) for found in meanings(head[:SIZE], refused)]
     words = (refused or b"").split()
     if number in COUNTS and problem:
-        with text() as pieces:
-            count = counted(pieces)
-        hints.append(f"declared {visible(problem[-1])}, found {count}: only a, s, q and v lines count")
+        hints.append(f"declared {visible(problem[-1])}, found {counted(text())}: only a, s, q and v lines count")
     if number == 13 and len(problem) > 2 and problem[1] != b"aux":
         hints.append(f"NODES {visible(problem[2])}: nodes count from 1")
     if number == 14 and line and len(words) > 1:
-        with text() as pieces:
-            hints += hints_of_repeated(lines_of(pieces), words)
+        hints += hints_of_repeated(lines_of(text()), words)
     if number == 17 and line and len(words) in (4, 6):
-        with text() as pieces:
-            hints += hints_of_sum(lines_of(pieces), line, words)
+        hints += hints_of_sum(lines_of(text()), line, words)
     if node is not None:
-        with text() as pieces:
-            hints += hints_of_node(lines_of(pieces), node)
+        hints += hints_of_node(lines_of(text()), node)
     if not hints and number in REMEDIES:
         hints.append(REMEDIES[number])
     return Cause(None if refused is None else visible(refused[:SHOWN]), hints)
@@ -171,32 +163,29 @@ def meaning_of(head: bytes) -> tuple[str, str]:
     return ("" if head else "The file is empty") or found, ""
 
 
-def hints_of_bytes(head: bytes, refused: bytes | None, name: str | None) -> Iterator[str]:
-    """Yields what the first bytes of a text mean, and the last ones of the refused line."""
+def hint(what: str, command: str, name: str | None) -> str:
+    """Returns what is found, and the command that checks the text that it makes of the file of this name."""
+    return f"{what}: {command.format(quoted(name))} | dnorm check -" if name and command else what
 
-    def hint(what: str, command: str) -> str:
-        return f"{what}: {command.format(quoted(name))} | dnorm check -" if name and command else what
 
+def meanings(head: bytes, refused: bytes | None) -> Iterator[tuple[str, str]]:
+    """Yields what the first bytes of a text mean, or else the ends of its lines and those of the refused one, each with
+    the command that makes a text of it, or nothing for none."""
     found = meaning_of(head)
     wide = next((order for pattern, order in WIDE if pattern.match(head)), "")
     if found[0]:
-        yield hint(*found)
+        yield found
     elif wide:
-        yield hint("The file is in UTF-16 without a mark", f"iconv -f UTF-16{wide} -t UTF-8 < {{}}")
+        yield "The file is in UTF-16 without a mark", f"iconv -f UTF-16{wide} -t UTF-8 < {{}}"
     elif refused and CONFLICT.fullmatch(refused):
-        yield "The line is of a conflict that git could not merge: keep one side, and remove such lines"
+        yield "The line is of a conflict that git could not merge: keep one side, and remove such lines", ""
     else:
-        yield from hints_of_ends(head, refused, hint)
-
-
-def hints_of_ends(head: bytes, refused: bytes | None, hint: Callable[[str, str], str]) -> Iterator[str]:
-    """Yields what the ends of lines mean, and NUL within the refused line."""
-    if b"\r" in head and b"\n" not in head:
-        yield hint("CR alone ends lines", r"tr '\r' '\n' < {}")
-    if refused and len(refused) < KEPT and ENDED.fullmatch(refused):
-        yield hint("The line ends in NUL or Ctrl-Z", r"tr -d '\0\032' < {}")
-    elif refused and b"\0" in refused:
-        yield "The line has NUL within, where data may be lost: get the file again"
+        if b"\r" in head and b"\n" not in head:
+            yield "CR alone ends lines", r"tr '\r' '\n' < {}"
+        if refused and len(refused) < KEPT and ENDED.fullmatch(refused):
+            yield "The line ends in NUL or Ctrl-Z", r"tr -d '\0\032' < {}"
+        elif refused and b"\0" in refused:
+            yield "The line has NUL within, where data may be lost: get the file again", ""
 
 
 def hint_of_compressed(head: bytes, name: str) -> str:
@@ -205,7 +194,7 @@ def hint_of_compressed(head: bytes, name: str) -> str:
         return "The file is cut or damaged: get it again"
     what, command = meaning_of(head)
     if command:
-        return f"{what}, and its name says another thing: {command.format(quoted(name))} | dnorm check -"
+        return hint(f"{what}, and its name says another thing", command, name)
     if not what and re.fullmatch(rb"[\t\n\r -~]+", head):
         return f"The file is not compressed: dnorm check - < {quoted(name)}"
     return what or "The file is not compressed as its name says"

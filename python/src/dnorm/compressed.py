@@ -5,9 +5,9 @@ from __future__ import annotations
 import contextlib
 from collections.abc import Callable, Iterator
 from importlib import import_module
-from typing import Any, BinaryIO, Protocol
+from typing import Any, BinaryIO
 
-from .names import COMPRESSIONS, OTHERS, ending_of, unknown_compression, unknown_text
+from .names import COMPRESSIONS, ending_of, unknown_compression, unknown_text
 
 # The number of bytes that are read and written at a time.
 SIZE = 1 << 16
@@ -15,21 +15,8 @@ SIZE = 1 << 16
 NO_ZSTD = "zstd needs Python 3.14 or the module zstandard"
 
 
-class Reading(Protocol):
-    """A file that is read."""
-
-    def read(self, size: int, /) -> bytes:
-        """Returns at most so many bytes, and none at the end."""
-
-
-class Compressed(Protocol):
-    """A compressed file that is written."""
-
-    def write(self, data: bytes, /) -> int:
-        """Writes all of these bytes."""
-
-    def close(self) -> None:
-        """Ends the compressed data, and leaves the file below open."""
+# Returns at most so many bytes of a file, and none at its end.
+Reads = Callable[[int], bytes]
 
 
 class Zstandard:
@@ -59,21 +46,11 @@ class Zstandard:
         return found
 
 
-def unzstd() -> Any:
-    with contextlib.suppress(ImportError):
-        return import_module("compression.zstd").ZstdDecompressor()
-    with contextlib.suppress(ImportError):
-        return Zstandard(import_module("zstandard"))
-    raise OSError(NO_ZSTD)
-
-
-def zstd_into(file: BinaryIO) -> Any:
-    # The checksum lets a reader notice damage.
-    with contextlib.suppress(ImportError):
-        zstd = import_module("compression.zstd")
-        return zstd.ZstdFile(file, "wb", options={zstd.CompressionParameter.checksum_flag: 1})
-    with contextlib.suppress(ImportError):
-        return import_module("zstandard").ZstdCompressor(write_checksum=True).stream_writer(file, closefd=False)
+def by_zstd(make: Callable[[Any], Any], other: Callable[[Any], Any]) -> Any:
+    """Returns what is made of the module of the standard library, or else of the other one."""
+    for name, it in (("compression.zstd", make), ("zstandard", other)):
+        with contextlib.suppress(ImportError):
+            return it(import_module(name))
     raise OSError(NO_ZSTD)
 
 
@@ -84,14 +61,19 @@ DECOMPRESSORS: dict[str, Callable[[], Any]] = {
     ".gz": lambda: import_module("zlib").decompressobj(15 + 16),
     ".bz2": lambda: import_module("bz2").BZ2Decompressor(),
     ".xz": lambda: import_module("lzma").LZMADecompressor(import_module("lzma").FORMAT_XZ),
-    ".zst": unzstd,
+    ".zst": lambda: by_zstd(lambda it: it.ZstdDecompressor(), Zstandard),
 }
+# Closing such a file ends the compressed data, and leaves the file below open.
 COMPRESSORS: dict[str, Callable[[BinaryIO], Any]] = {
     # Without a name and a time, equal texts make equal files.
     ".gz": lambda file: import_module("gzip").GzipFile(filename="", mode="wb", fileobj=file, mtime=0),
     ".bz2": lambda file: import_module("bz2").BZ2File(file, "wb"),
     ".xz": lambda file: import_module("lzma").LZMAFile(file, "wb"),
-    ".zst": zstd_into,
+    # The checksum lets a reader notice damage.
+    ".zst": lambda file: by_zstd(
+        lambda it: it.ZstdFile(file, "wb", options={it.CompressionParameter.checksum_flag: 1}),
+        lambda it: it.ZstdCompressor(write_checksum=True).stream_writer(file, closefd=False),
+    ),
 }
 # Whether so many zeros may follow a stream, given whether they end the file: the tool of the format neither fails nor
 # warns then, and reads on.
@@ -104,14 +86,11 @@ PADS: dict[str, Callable[[int, bool], bool]] = {
 def compression_of(name: str) -> str:
     """Returns the ending by which the file of this name is decompressed, or nothing if it is plain. Raises OSError for
     a compression that is not read."""
-    ending = ending_of(name)
-    if ending not in COMPRESSIONS and ending not in OTHERS:
-        return ""
     raise_for(unknown_compression(name))
-    return ending
+    return ending_of(name) if ending_of(name) in COMPRESSIONS else ""
 
 
-def compressor_of(name: str) -> Callable[[BinaryIO], Compressed] | None:
+def compressor_of(name: str) -> Callable[[BinaryIO], BinaryIO] | None:
     """Returns how the file of this name is compressed, or None if it is plain. Raises OSError for a compression that is
     not written, and for a name that stands for no plain text."""
     raise_for(unknown_compression(name) or unknown_text(name))
@@ -123,12 +102,12 @@ def raise_for(reason: str) -> None:
         raise OSError(reason)
 
 
-def pieces(file: Reading, ending: str) -> Iterator[bytes]:
+def pieces(read: Reads, ending: str) -> Iterator[bytes]:
     """Yields what a compressed file decompresses to, piece by piece. The file has one stream or several, one after
     another. Raises EOFError if the last one is cut, and OSError if one is corrupt, or if anything follows one that the
     tool of the format does not take. The functions of the standard library ignore what follows a stream of bzip2 and
     xz, even a corrupt stream."""
-    data = file.read(SIZE)
+    data = read(SIZE)
     while True:
         stream, size = DECOMPRESSORS[ending](), 0
         while not stream.eof:
@@ -137,8 +116,8 @@ def pieces(file: Reading, ending: str) -> Iterator[bytes]:
             piece = decompressed(stream, data)
             size = len(piece)
             yield piece
-            data = file.read(SIZE) if size < SIZE and not stream.eof else b""
-        zeros, data = after_zeros(bytes(stream.unused_data), file)
+            data = read(SIZE) if size < SIZE and not stream.eof else b""
+        zeros, data = after_zeros(bytes(stream.unused_data), read)
         if zeros and not PADS.get(ending, lambda *_: False)(zeros, not data):
             raise OSError(f"{zeros} zero {'byte follows' if zeros == 1 else 'bytes follow'} the compressed data")
         if not data:
@@ -157,15 +136,11 @@ def decompressed(stream: Any, data: bytes) -> bytes:
         raise OSError(str(error)) from error
 
 
-def after_zeros(data: bytes, file: Reading) -> tuple[int, bytes]:
+def after_zeros(data: bytes, read: Reads) -> tuple[int, bytes]:
     """Returns the number of zeros that come next, in the data or in the file, and the data behind them, if there are
     any."""
-    zeros = 0
-    while True:
+    zeros, rest = 0, b""
+    while not rest and (data := data or read(SIZE)):
         rest = data.lstrip(b"\0")
-        zeros += len(data) - len(rest)
-        if rest:
-            return zeros, rest
-        data = file.read(SIZE)
-        if not data:
-            return zeros, b""
+        zeros, data = zeros + len(data) - len(rest), b""
+    return zeros, rest

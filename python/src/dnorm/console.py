@@ -123,14 +123,14 @@ class Console:
 def for_terminal(text: str) -> str:
     """Returns lines in which every character that a terminal could take for a command is written as \\xNN, as a byte of
     it."""
-    if text.isascii() and text.replace("\n", "").isprintable():
+    return "\n".join(map(shown, text.split("\n")))
+
+
+def shown(text: str) -> str:
+    """Returns a text in which each character that cannot be printed is written as \\xNN, as a byte of it."""
+    if text.isprintable():
         return text
-    return "".join(it if it == "\n" or it.isprintable() else bytes_of(it) for it in text)
-
-
-def bytes_of(character: str) -> str:
-    """Returns the bytes of a character, each as \\xNN."""
-    return "".join(f"\\x{byte:02x}" for byte in os.fsencode(character))
+    return "".join(it if it.isprintable() else "".join(f"\\x{byte:02x}" for byte in os.fsencode(it)) for it in text)
 
 
 def number(least: int) -> Callable[[str], int]:

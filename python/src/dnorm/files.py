@@ -9,11 +9,11 @@ import secrets
 import stat
 import threading
 from collections.abc import Callable, Iterable, Iterator
-from typing import BinaryIO, Optional, Protocol, Union
+from typing import BinaryIO, Literal, Optional, Protocol, Union
 
 from .causes import SHOWN, Cause, cause_of, hint_of_compressed, hint_of_missing
-from .compressed import SIZE, Compressed, compression_of, compressor_of, pieces
-from .errors import DnormError, Memory, Read, Refused, Write
+from .compressed import SIZE, compression_of, compressor_of, pieces
+from .errors import DnormError, Memory, Read, Write
 from .instances import Instance
 from .limits import Limit, Timed
 
@@ -89,12 +89,6 @@ class Pieces:
 
     def read(self, _: int, /) -> bytes:
         return next(self._pieces, b"")
-
-
-def of_bytes(data: memoryview) -> Iterator[bytes]:
-    """Yields bytes in pieces."""
-    for at in range(0, len(data), SIZE):
-        yield bytes(data[at : at + SIZE])
 
 
 def of_stream(stream: Readable) -> Iterator[bytes]:
@@ -183,7 +177,6 @@ class Text:
 
     def __init__(self, file: File, stack: contextlib.ExitStack, limit: Limit) -> None:
         self.file, self.name, self.limit = file, name_of(file), limit
-        self.is_path = isinstance(file, (str, os.PathLike))
         self.size = 0
         self._opened: io.FileIO | None = None
         self._mark: tuple[int, int] | None = None
@@ -203,7 +196,7 @@ class Text:
             # An earlier text is judged first.
             self.text = failed(error)
         self.is_file = isinstance(self.text, io.FileIO)
-        self.is_compressed = self.is_path and not self.is_file
+        self.is_compressed = self._opened is not None and not self.is_file
         self._pieces: Iterator[bytes] | None = None
         self._is_stopped = False
 
@@ -215,7 +208,8 @@ class Text:
                 ending = compression_of(self.name)
             return self._decompressed(self._opened, ending) if ending else self._opened
         if isinstance(file, (bytes, bytearray, memoryview)):
-            return of_bytes(memoryview(file).cast("B"))
+            data = memoryview(file).cast("B")
+            return (bytes(data[at : at + SIZE]) for at in range(0, len(data), SIZE))
         if isinstance(file, Instance):
             return file.pieces()
         if isinstance(file, (str, os.PathLike)) or not hasattr(file, "read"):
@@ -226,7 +220,7 @@ class Text:
     def _decompressed(self, file: io.FileIO, ending: str) -> Iterator[bytes]:
         """Yields what the file decompresses to, in pieces."""
         try:
-            yield from pieces(Timed(file, self.limit), ending)
+            yield from pieces(Timed(file, self.limit).read, ending)
         except (OSError, EOFError) as error:
             head = os.pread(file.fileno(), SHOWN, 0) if self._mark else b""
             hint = hint_of_compressed(head, self.name) if self._mark else None
@@ -258,21 +252,19 @@ class Text:
         if self._opened and self._mark and mark_of(self._opened) != self._mark:
             raise Read(self.name, "it changed while it was read")
 
-    def cause(self, error: Refused) -> Cause | None:
+    def cause(self, line: int | None, number: int, node: int | None) -> Cause | None:
         """Returns the cause of a refusal, if the text can be read again."""
         if self._mark is None and not isinstance(self.file, (bytes, bytearray, memoryview, Instance)):
             return None
         with contextlib.suppress(DnormError, OSError, EOFError):
-            name = self.name if self.is_file else None
-            return cause_of(self._again, name, error.line, error.number, error.node)
+            return cause_of(self._again, self.name if self.is_file else None, line, number, node)
         return None
 
-    @contextlib.contextmanager
-    def _again(self) -> Iterator[Iterator[bytes]]:
+    def _again(self) -> Iterator[bytes]:
         """Begins the text once more, by the file that is open."""
         if self._opened:
             self._opened.seek(0)
-        yield self._all(self._begun())
+        return self._all(self._begun())
 
 
 class Sink:
@@ -294,28 +286,28 @@ def sink_of(target: Target) -> Iterator[Sink]:
     is_replaced = os.path.isfile(name) or not os.path.exists(name)
     with failing(Write, name):
         start = compressor_of(name)
-    with whole_file(name) if is_replaced else written_file(name, name) as file:
-        if start:
-            with failing(Write, name):
-                compressed = start(file)
-            with compressed_sink(compressed, name) as sink:
-                yield sink
-        else:
+    with whole_file(name) if is_replaced else written_file(name, name, "wb") as file:
+        if not start:
             with stream_sink(file, name) as sink:
                 yield sink
+            return
+        with failing(Write, name):
+            compressed = start(file)
+        with closed(compressed, name):
+            yield Sink(name, failing(Write, name)(compressed.write))
 
 
 @contextlib.contextmanager
 def stream_sink(stream: Writable, name: str) -> Iterator[Sink]:
     """Writes to a stream, and flushes it at the end, if it has a flush()."""
 
+    @failing(Write, name)
     def take(piece: bytes) -> None:
-        with failing(Write, name):
-            while piece:
-                count = stream.write(piece)
-                if count is None and isinstance(stream, io.RawIOBase):
-                    raise BlockingIOError("the stream takes no data now, and does not wait")
-                piece = piece[len(piece) if count is None else count :]
+        while piece:
+            count = stream.write(piece)
+            if count is None and isinstance(stream, io.RawIOBase):
+                raise BlockingIOError("the stream takes no data now, and does not wait")
+            piece = piece[len(piece) if count is None else count :]
 
     yield Sink(name, take)
     with failing(Write, name):
@@ -323,28 +315,16 @@ def stream_sink(stream: Writable, name: str) -> Iterator[Sink]:
 
 
 @contextlib.contextmanager
-def compressed_sink(file: Compressed, name: str) -> Iterator[Sink]:
-    """Writes a compressed file."""
-
-    def take(piece: bytes) -> None:
-        with failing(Write, name):
-            file.write(piece)
-
-    with closed(file, name):
-        yield Sink(name, take)
-
-
-@contextlib.contextmanager
-def written_file(path: str, name: str, is_new: bool = False) -> Iterator[BinaryIO]:
+def written_file(path: str, name: str, mode: Literal["wb", "xb"]) -> Iterator[BinaryIO]:
     """Opens a file to be written. Errors call it by this name."""
     with failing(Write, name):
-        file = open(path, "xb") if is_new else open(path, "wb")
+        file = open(path, mode)
     with closed(file, name):
         yield file
 
 
 @contextlib.contextmanager
-def closed(file: Compressed | BinaryIO, name: str) -> Iterator[None]:
+def closed(file: BinaryIO, name: str) -> Iterator[None]:
     """Closes a file that was written. Raises Write if that fails, unless something else was raised before."""
     try:
         yield
@@ -363,7 +343,7 @@ def whole_file(name: str) -> Iterator[BinaryIO]:
     path = os.path.realpath(name)
     new = os.path.join(os.path.dirname(path), f".dnorm-{secrets.token_hex(8)}")
     try:
-        with written_file(new, name, is_new=True) as file:
+        with written_file(new, name, "xb") as file:
             with failing(Write, name):
                 if os.path.exists(path):
                     os.fchmod(file.fileno(), stat.S_IMODE(os.stat(path).st_mode))

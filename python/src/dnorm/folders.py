@@ -40,18 +40,15 @@ def find(paths: Iterable[str], endings: Sequence[str], excluded: Sequence[str] =
     endings, in small letters or capitals, compressed or not, except what matches an excluded pattern. A folder that
     cannot be read, or that has no such file, has an error, and so has a file in whose name something else follows such
     an ending, and what is no file, as a pipe."""
-    found, left_out = Found({}, {}), 0
+    search = Search(endings, excluded)
     for path in paths:
         if os.path.isdir(path):
-            below = Search(path, endings, excluded).found()
-            left_out += below.excluded
             missing = Read(path, f"no file in it ends in {' '.join(endings)}; --ending names other endings")
-            found.files.update(below.files or {path: missing})
-            found.others.update(below.others)
+            search.files.update(search.below(path) or {path: missing})
         else:
-            found.files[path] = error_of_name(path, endings)
-    others = {name: reason for name, reason in found.others.items() if name not in found.files}
-    return Found(in_order_of_names(found.files), in_order_of_names(others), left_out)
+            search.files[path] = error_of_name(path, endings)
+    others = {name: reason for name, reason in search.others.items() if name not in search.files}
+    return Found(in_order_of_names(search.files), in_order_of_names(others), search.left_out)
 
 
 def error_of_name(path: str, endings: Sequence[str]) -> DnormError | None:
@@ -72,35 +69,35 @@ def in_order_of_names(found: dict[str, Result]) -> dict[str, Result]:
 
 
 class Search:
-    """A search below a folder."""
+    """What a search finds, as `Found` has it."""
 
-    def __init__(self, folder: str, endings: Sequence[str], excluded: Sequence[str]) -> None:
-        self.folder, self.endings, self.excluded, self.left_out = folder, endings, excluded, 0
+    def __init__(self, endings: Sequence[str], excluded: Sequence[str]) -> None:
+        self.endings, self.excluded, self.left_out = endings, excluded, 0
+        self.files: dict[str, DnormError | None] = {}
+        self.others: dict[str, str] = {}
 
-    def found(self) -> Found:
-        """Returns the files and the other files below the folder. Links to files count as files, even if they lead
+    def below(self, folder: str) -> dict[str, DnormError | None]:
+        """Returns the files below a folder, and keeps the others. Links to files count as files, even if they lead
         nowhere; links to folders are not followed."""
-        found = Found({}, {})
+        files: dict[str, DnormError | None] = {}
         errors: list[OSError] = []
-        for at, folders, names in os.walk(self.folder, onerror=errors.append):
-            folders[:] = [it for it in folders if self.is_wanted(at, it)]
+        for at, folders, names in os.walk(folder, onerror=errors.append):
+            folders[:] = [it for it in folders if self.is_wanted(folder, at, it)]
             links = [os.path.join(at, it) for it in folders if os.path.islink(os.path.join(at, it))]
-            found.others.update(dict.fromkeys(links, "it is a link to a folder, which is not followed"))
-            for path in (os.path.join(at, it) for it in names if self.is_wanted(at, it)):
+            self.others.update(dict.fromkeys(links, "it is a link to a folder, which is not followed"))
+            for path in (os.path.join(at, it) for it in names if self.is_wanted(folder, at, it)):
                 if is_text(path, self.endings) or misnamed_text(path, self.endings):
-                    found.files[path] = error_of_name(path, self.endings) or error_of_type(path)
+                    files[path] = error_of_name(path, self.endings) or error_of_type(path)
                 else:
-                    found.others[path] = "its name does not end like that of a DIMACS text"
-        for error in errors:
-            name = os.fsdecode(error.filename)
-            found.files[name] = Read(name, reason_of(error))
-        return found._replace(excluded=self.left_out)
+                    self.others[path] = "its name does not end like that of a DIMACS text"
+        unread = {os.fsdecode(it.filename): reason_of(it) for it in errors}
+        return files | {name: Read(name, reason) for name, reason in unread.items()}
 
-    def is_wanted(self, at: str, name: str) -> bool:
+    def is_wanted(self, folder: str, at: str, name: str) -> bool:
         """Whether a file or folder of this name is neither excluded nor of version control."""
         if name in HIDDEN or name == CVS and os.path.isfile(os.path.join(at, name, CVS_LIST)):
             return False
-        names = (name, os.path.relpath(os.path.join(at, name), self.folder)) if self.excluded else ()
+        names = (name, os.path.relpath(os.path.join(at, name), folder)) if self.excluded else ()
         is_excluded = any(fnmatchcase(it, pattern) for it in names for pattern in self.excluded)
         self.left_out += is_excluded
         return not is_excluded

@@ -25,8 +25,8 @@ if TYPE_CHECKING:
 else:
     Network = MultiNetwork = DataFrame = csr_matrix = Any
 
-# The letter of the counted lines of each kind, and how many numbers follow it.
-COUNTED = {"min": (b"a", 5), "max": (b"a", 3), "sp": (b"a", 3), "ss": (b"s", 1), "p2p": (b"q", 2), "co": (b"v", 3)}
+# The letter of the counted lines of each kind.
+LETTERS = {"min": "a", "max": "a", "sp": "a", "ss": "s", "p2p": "q", "co": "v"}
 # How many rows are made of columns at a time, and how many lines of text.
 STEP, LINES = 1 << 16, 1 << 12
 
@@ -85,28 +85,28 @@ class Instance:
         for name in names:
             # The class is frozen to its users.
             object.__setattr__(self, name, frozen(name, getattr(self, name)))
-        for name in names[1:]:
-            if len(getattr(self, name)) != len(self):
-                count = len(getattr(self, name))
+        for name, count in zip(names, map(len, self._columns())):
+            if count != len(self):
                 raise ValueError(f"{names[0]} and {name} have {len(self)} and {count} numbers")
 
     def __len__(self) -> int:
-        return len(getattr(self, column_names(type(self))[0]))
+        return len(self._columns()[0])
 
     def __eq__(self, other: object) -> bool:
-        if type(other) is not type(self):
+        if not isinstance(other, Instance) or type(other) is not type(self):
             return NotImplemented
-        names = column_names(type(self))
-        if not all(are_same(getattr(self, it), getattr(other, it)) for it in names):
+        if not all(map(are_same, self._columns(), other._columns())):
             return False
-        return all(getattr(self, it.name) == getattr(other, it.name) for it in fields(self) if it.name not in names)
+        names = {it.name for it in fields(self)}.difference(column_names(type(self)))
+        return all(getattr(self, it) == getattr(other, it) for it in names)
 
     def __hash__(self) -> int:
         return hash((type(self), *(memoryview(it).tobytes() for it in self._columns())))
 
     def __reduce__(self) -> tuple[Any, ...]:
-        values = [getattr(self, it.name) for it in fields(self)]
-        return type(self), tuple(map(picklable, values))
+        # Pickle takes no memoryview.
+        values = (getattr(self, it.name) for it in fields(self))
+        return type(self), tuple(array("q", it) if isinstance(it, memoryview) else it for it in values)
 
     def __repr__(self) -> str:
         return f"<dnorm.{type(self).__name__}: {len(self)} items>"
@@ -128,10 +128,8 @@ class Instance:
 
     def pieces(self) -> Iterator[bytes]:
         """Yields a text of the instance in pieces, with its arcs or items in their order."""
-        letter, width = COUNTED[self.kind]
         yield "".join([f"p {self._problem()} {len(self)}\n", *self._heads()]).encode()
-        line = letter.decode() + " %d" * width + "\n"
-        rows = self.rows()
+        line, rows = LETTERS[self.kind] + " %d" * len(self._columns()) + "\n", self.rows()
         while piece := "".join(map(line.__mod__, islice(rows, LINES))):
             yield piece.encode()
 
@@ -145,8 +143,8 @@ class Instance:
 
     def to_pandas(self) -> DataFrame:
         """Returns a `pandas.DataFrame` with the columns, and a row for each arc or item."""
-        numpy, pandas = importlib.import_module("numpy"), importlib.import_module("pandas")
-        made: DataFrame = pandas.DataFrame({it: numpy.array(getattr(self, it)) for it in column_names(type(self))})
+        columns = zip(column_names(type(self)), map(importlib.import_module("numpy").array, self._columns()))
+        made: DataFrame = importlib.import_module("pandas").DataFrame(dict(columns))
         return made
 
 
@@ -156,11 +154,6 @@ Made = TypeVar("Made", bound=Instance)
 def column_names(kind: type[Instance]) -> list[str]:
     """Returns the attributes of a class that are columns, in the order of the numbers on a counted line."""
     return [it.name for it in fields(kind) if str(it.type) == "Column"]
-
-
-def picklable(value: Any) -> Any:
-    """Returns the value of an attribute as something that pickle takes and the constructor turns back."""
-    return array("q", value) if isinstance(value, memoryview) else value
 
 
 def whole(name: str, number: Any) -> int:
@@ -227,6 +220,23 @@ class Graph(Instance):
         if count != len(self):
             raise ValueError("arcs are parallel: dnorm.read of the text that dnorm.write makes merges them")
 
+    def _network(self, weight: str, **attributes: int) -> Network:
+        """Returns a graph of networkx whose edges have their number by this name."""
+        graph: Network = importlib.import_module("networkx").DiGraph(**attributes)
+        graph.add_nodes_from(range(1, self.nodes + 1))
+        graph.add_weighted_edges_from(self.arcs(), weight)
+        self.check_parallel(graph.number_of_edges())
+        return graph
+
+    def _matrix(self, values: Column) -> csr_matrix:
+        """Returns a matrix with a value for each arc."""
+        numpy, sparse = importlib.import_module("numpy"), importlib.import_module("scipy.sparse")
+        self.check_ends()
+        tails, heads, data = (numpy.asarray(it, dtype=numpy.int64) for it in (self.tails, self.heads, values))
+        found: csr_matrix = sparse.csr_matrix((data, (tails - 1, heads - 1)), shape=(self.nodes, self.nodes))
+        self.check_parallel(found.nnz)
+        return found
+
     def check_ends(self) -> None:
         """Raises ValueError if an arc has an end that is no node."""
         for name in ("tails", "heads"):
@@ -247,16 +257,12 @@ class Sp(Arcs[tuple[int, int, int]], Graph):
     def to_networkx(self) -> Network:
         """Returns a `networkx.DiGraph`, with the lengths as the attribute `weight`. Raises ValueError if arcs are
         parallel, which no instance has that was read."""
-        graph: Network = importlib.import_module("networkx").DiGraph()
-        graph.add_nodes_from(range(1, self.nodes + 1))
-        graph.add_weighted_edges_from(self.arcs())
-        self.check_parallel(graph.number_of_edges())
-        return graph
+        return self._network("weight")
 
     def to_scipy(self) -> csr_matrix:
         """Returns a `scipy.sparse.csr_matrix` of the lengths. Node i has row and column i - 1. Arcs of length 0 are
         stored entries, which `scipy.sparse.csgraph` takes for arcs. Raises ValueError if arcs are parallel."""
-        return matrix(self, self.lengths)
+        return self._matrix(self.lengths)
 
 
 @dataclass(frozen=True, eq=False, repr=False)
@@ -277,17 +283,13 @@ class Max(Arcs[tuple[int, int, int]], Graph):
         """Returns a `networkx.DiGraph`, whose edges have the attribute `capacity`. Its attributes
         `graph["source"]` and `graph["sink"]` are the terminals. Raises ValueError if arcs are parallel, which no
         instance has that was read."""
-        graph: Network = importlib.import_module("networkx").DiGraph(source=self.source, sink=self.sink)
-        graph.add_nodes_from(range(1, self.nodes + 1))
-        graph.add_edges_from((tail, head, {"capacity": capacity}) for tail, head, capacity in self.arcs())
-        self.check_parallel(graph.number_of_edges())
-        return graph
+        return self._network("capacity", source=self.source, sink=self.sink)
 
     def to_scipy(self) -> csr_matrix:
         """Returns a `scipy.sparse.csr_matrix` of the capacities. Node i has row and column i - 1. Where
         `scipy.sparse.csgraph.maximum_flow` takes only 32 bits, convert it: `.astype("int32")`. Raises ValueError if
         arcs are parallel."""
-        return matrix(self, self.capacities)
+        return self._matrix(self.capacities)
 
 
 @dataclass(frozen=True, eq=False, repr=False)
@@ -311,9 +313,7 @@ class Min(Arcs[tuple[int, int, int, int, int]], Graph):
     def supply_column(self) -> Column:
         """Returns the flow of each node. That of node i is at place i - 1."""
         flows = array("q", bytes(8 * self.nodes))
-        for node, flow in self.supplies.items():
-            if not 1 <= node <= self.nodes:
-                raise ValueError(f"supplies has node {node}, which is none of 1 to {self.nodes}: nodes count from 1")
+        for node, flow in of_nodes(self.supplies, self.nodes).items():
             flows[node - 1] = flow
         found: Column = column(flows)
         return found
@@ -382,16 +382,6 @@ class Co(Rows[tuple[int, int, int]], Instance):
     ys: Column
 
 
-def matrix(graph: Graph, values: Column) -> csr_matrix:
-    """Returns a matrix with a value for each arc."""
-    numpy, sparse = importlib.import_module("numpy"), importlib.import_module("scipy.sparse")
-    graph.check_ends()
-    tails, heads, data = (numpy.asarray(it, dtype=numpy.int64) for it in (graph.tails, graph.heads, values))
-    found: csr_matrix = sparse.csr_matrix((data, (tails - 1, heads - 1)), shape=(graph.nodes, graph.nodes))
-    graph.check_parallel(found.nnz)
-    return found
-
-
 AnyInstance = Union[Sp, Max, Min, Ss, P2p, Co]
 CLASSES: dict[str, Any] = {"sp": Sp, "max": Max, "min": Min, "ss": Ss, "p2p": P2p, "co": Co}
 
@@ -446,9 +436,7 @@ def from_arrays(kind: Any, **values: Any) -> Any:
     made = class_of(kind)
     names = column_names(made)
     given = {name: column_of(name, it) if name in names else it for name, it in values.items()}
-    for it in ("nodes", "source", "sink"):
-        if it in given:
-            given[it] = whole(it, given[it])
+    given.update((it, whole(it, given[it])) for it in ("nodes", "source", "sink") if it in given)
     nodes = given.get("nodes", MOST)
     if nodes < 0:
         raise ValueError(f"nodes is {nodes}")
@@ -470,7 +458,7 @@ def class_of(kind: object) -> Any:
     raise TypeError(f"kind is one of dnorm.{', dnorm.'.join(it.__name__ for it in CLASSES.values())}, or its name")
 
 
-def flows_of(supplies: Any, nodes: int) -> dict[int, int]:
+def flows_of(supplies: Any, nodes: int) -> Mapping[int, int]:
     """Returns the flows of nodes, which are given by node, or as a column."""
     if not isinstance(supplies, Mapping):
         flows = column_of("supplies", supplies).tolist()
@@ -478,7 +466,12 @@ def flows_of(supplies: Any, nodes: int) -> dict[int, int]:
             raise ValueError(f"supplies has {len(flows)} numbers, and there are {nodes} nodes")
         return {node: flow for node, flow in enumerate(flows, 1) if flow}
     found = {whole(f"node {it!r} of supplies", it): whole(f"supplies[{it!r}]", flow) for it, flow in supplies.items()}
-    for node in found:
+    return of_nodes(found, nodes)
+
+
+def of_nodes(supplies: Mapping[int, int], nodes: int) -> Mapping[int, int]:
+    """Returns the flows of nodes. Raises ValueError if one is none of 1 to `nodes`."""
+    for node in supplies:
         if not 1 <= node <= nodes:
             raise ValueError(f"supplies has node {node}, which is none of 1 to {nodes}: nodes count from 1")
-    return found
+    return supplies

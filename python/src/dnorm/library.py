@@ -12,14 +12,16 @@ import platform
 from array import array
 from collections.abc import Iterator
 from importlib.machinery import EXTENSION_SUFFIXES
+from itertools import starmap
 from typing import Any, cast
 
 from .answers import AnyDifference, Difference, Same
 from .columns import column
 from .errors import DnormError, Endless, Memory, NoLibrary, Refused
 from .files import Text
+from .instances import CLASSES, column_names
 from .limits import Lease
-from .program import page
+from .program import page, place
 from .refusals import REFUSALS
 
 # The name of the library ends with the number of the interface that this module knows. setuptools, which builds it from
@@ -27,10 +29,11 @@ from .refusals import REFUSALS
 ABI = 3
 NAME = f"libdnorm.so.{ABI}"
 NAMES = [NAME, *(f"libdnorm{it}" for it in EXTENSION_SUFFIXES)]
-# Where the library is, from here: in a wheel; in an archive; in a clone; below the prefix of `./install`; on Debian.
-PLACES = ["", "../../../lib", "../../../c/out/lib", "../../../../lib", f"../../../{platform.machine()}-linux-gnu"]
-# Kinds by their numbers, with the numbers of an arc, and those of an item of a companion, that are columns.
-KINDS = [("", 0), ("min", 5), ("max", 3), ("sp", 3), ("ss", 1), ("p2p", 2), ("co", 3)]
+# Where the library is, from here, but for that of a wheel, which has any of the names: in an archive; in a clone; below
+# the prefix of `./install`; on Debian.
+PLACES = ["../../../lib", "../../../c/out/lib", "../../../../lib", f"../../../{platform.machine()}-linux-gnu"]
+# Kinds by their numbers.
+KINDS = ["", "min", "max", "sp", "ss", "p2p", "co"]
 GRAPHS = ("min", "max", "sp")
 # What a difference is about, by its number; and a pair by the kind of the graphs.
 WHAT = ["same", "kind", "nodes", "supply", "source", "sink", "pair", "items", "item", "point"]
@@ -119,20 +122,13 @@ def loaded(named: str) -> Library:
     """Returns the library of this path, or if there is no path the one that came with this package. Raises NoLibrary if
     there is none."""
     error = NoLibrary(NAME, f"it is not there; {page()} says where to get it")
-    for path in [os.path.abspath(named)] if named else filter(os.path.exists, places()):
+    places = [*((name, "") for name in NAMES), *((NAME, it) for it in PLACES)]
+    for path in [os.path.abspath(named)] if named else filter(os.path.exists, starmap(place, places)):
         try:
             return Library(path)
         except (OSError, AttributeError) as reason:
             error = NoLibrary(path, str(reason))
     raise error
-
-
-def places() -> Iterator[str]:
-    """Yields the paths where the library may be."""
-    here = os.path.dirname(os.path.realpath(__file__))
-    for it in PLACES:
-        for name in NAMES if it == "" else [NAME]:
-            yield os.path.normpath(os.path.join(here, it, name))
 
 
 class Held:
@@ -142,11 +138,9 @@ class Held:
     def __init__(self, found: Library, handle: Any, text: Text, lease: Lease) -> None:
         self._library, self._handle, self._text, self._lease = found, handle, text, lease
         facts = found.facts(handle)
-        self.kind, self._width = KINDS[facts.kind]
-        self.nodes: int = facts.nodes
-        self.lines: int = facts.lines
-        self.pairs: int = facts.pairs
-        self._item_count: int = facts.items
+        self.kind = KINDS[facts.kind]
+        self.nodes, self.lines, self.pairs = int(facts.nodes), int(facts.lines), int(facts.pairs)
+        self._item_count = int(facts.items)
 
     def count(self, form: int) -> int:
         """Returns the number of canonical arcs in a form, or of the items of a companion."""
@@ -156,12 +150,10 @@ class Held:
 
     def columns(self, form: int) -> list[Any]:
         """Returns the columns of the arcs in a form, or of the items of a companion."""
+        width = len(column_names(CLASSES[self.kind]))
         if self.kind not in GRAPHS:
-            return self._items(self._width)
-        columns = [room_for(self.count(form)) for _ in range(self._width)]
-        call = functools.partial(self._library.next, self._handle, form)
-        self._copied(call, self.count(form), 5, columns)
-        return [column(it) for it in columns]
+            return self._items(width)
+        return self._copied(functools.partial(self._library.next, self._handle, form), self.count(form), 5, width)
 
     def loops(self, form: int) -> int:
         """Returns how many arcs in a form end where they begin."""
@@ -172,20 +164,19 @@ class Held:
 
     def items(self) -> list[tuple[int, int]]:
         """Returns the first two numbers of what a graph has beside its arcs."""
-        ids, values = (it.tolist() for it in self._items(2))
-        return list(zip(ids, values))
+        return list(zip(*(it.tolist() for it in self._items(2))))
 
     def _items(self, width: int) -> list[Any]:
         """Returns the first columns of the items, which have three numbers each."""
-        columns = [room_for(self._item_count) for _ in range(width)]
-        self._copied(functools.partial(self._library.items, self._handle), self._item_count, 3, columns)
-        return [column(it) for it in columns]
+        return self._copied(functools.partial(self._library.items, self._handle), self._item_count, 3, width)
 
-    def _copied(self, call: Any, count: int, numbers: int, columns: list[array[int]]) -> None:
-        """Copies what a call copies from place to place, each with so many numbers, into the first columns."""
+    def _copied(self, call: Any, count: int, numbers: int, width: int) -> list[Any]:
+        """Returns the first columns of what a call copies from place to place, each with so many numbers."""
+        columns = [room_for(count) for _ in range(width)]
         for done, some in self._rooms(call, count, numbers):
             for number, it in enumerate(columns):
                 memoryview(it)[done : done + len(some) // numbers] = some[number::numbers]
+        return [column(it) for it in columns]
 
     def _rooms(self, call: Any, count: int, numbers: int) -> Iterator[tuple[int, memoryview]]:
         """Yields what a call copies from place to place, room by room, and how much came before."""
@@ -234,7 +225,7 @@ class Held:
             return Same()
         one, other = number_of(found.left), number_of(found.right)
         if what == "kind":
-            made = Difference(what, KINDS[one][0], KINDS[other][0])
+            made = Difference(what, KINDS[one], KINDS[other])
         elif what == "pair":
             amount = found.amount if self.kind == "min" else None
             made = Difference(OF_PAIR[self.kind], one, other, pair=(found.at, found.to), amount=amount)
@@ -247,8 +238,7 @@ class Held:
         """Raises `Refused` if a companion does not fit this graph."""
         found, text = self._library.fits(self._handle, companion._handle), companion._text
         if found.code != FINE:
-            node = found.node if found.code == NOT_IN_GRAPH else None
-            raise with_cause(Refused(text.name, None, found.code, REFUSALS[found.code][0], node), text)
+            raise refused(text, None, found.code, found.node if found.code == NOT_IN_GRAPH else None)
 
 
 def number_of(value: Any) -> Any:
@@ -340,14 +330,11 @@ def error_of(status: Any, text: Text) -> DnormError:
     """Returns the error of a status."""
     if status.code == MEMORY:
         return Memory(text.name)
-    line = status.line if status.place == AT_LINE else None
-    return with_cause(Refused(text.name, line, status.code, REFUSALS[status.code][0]), text)
+    return refused(text, status.line if status.place == AT_LINE else None, status.code)
 
 
-def with_cause(error: Refused, text: Text) -> Refused:
-    """Returns a refusal with its cause, if that can be found."""
-    cause = text.cause(error)
-    if not cause:
-        return error
-    hint = "\n".join(cause.hints) or None
-    return Refused(error.name, error.line, error.number, error.word, error.node, cause.text, hint)
+def refused(text: Text, line: int | None, number: int, node: int | None = None) -> Refused:
+    """Returns a refusal of a text, with its cause if that can be found."""
+    cause = text.cause(line, number, node)
+    more = (cause.text, "\n".join(cause.hints) or None) if cause else ()
+    return Refused(text.name, line, number, REFUSALS[number][0], node, *more)

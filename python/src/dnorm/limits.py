@@ -85,7 +85,12 @@ class Limit:
 
         for it in leases:
             it.take()
-        started(threading.Thread(target=run, daemon=True), self.name)
+        try:
+            with heeding_signals():
+                threading.Thread(target=run, daemon=True).start()
+        except RuntimeError as error:
+            # The system lets no more threads start.
+            raise Memory(self.name) from error
         with heeding_signals():
             has_ended.wait(left)
         self.left()
@@ -102,16 +107,6 @@ def heeding_signals() -> Iterator[None]:
         if error.__context__ and not isinstance(error.__context__, Exception):
             raise error.__context__ from None
         raise
-
-
-def started(thread: threading.Thread, name: str) -> None:
-    """Starts a thread for the file of this name."""
-    try:
-        with heeding_signals():
-            thread.start()
-    except RuntimeError as error:
-        # The system lets no more threads start.
-        raise Memory(name) from error
 
 
 def at_once(one: Callable[[], Result], other: Callable[[], Other], end: Callable[[], None]) -> tuple[Result, Other]:

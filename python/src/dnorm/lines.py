@@ -3,16 +3,14 @@
 from __future__ import annotations
 
 from array import array
+from collections import Counter
 from collections.abc import Iterator, Sequence
 from dataclasses import dataclass
 from itertools import groupby
 from typing import Union
 
-from .columns import Column, column, numbers_of
+from .columns import MOST, Column, column, numbers_of
 from .instances import Graph
-
-# What a line of the shortest path can take.
-UNBOUNDED = 2**63 - 1
 
 
 @dataclass(frozen=True, eq=False, repr=False)
@@ -39,7 +37,8 @@ class ArcLines:
         """Yields the pair of each line, its cost, its place, its lower bound, and the units above that."""
         rows = zip(*(it.tolist() for it in (self.tails, self.heads, self.a, self.b, self.c)))
         for at, (tail, head, a, b, c) in enumerate(rows):
-            low, room, cost = {"min": (a, b - a, c), "max": (0, a, 0)}.get(self.kind, (0, UNBOUNDED, a))
+            # A line of the shortest path can take any number.
+            low, room, cost = {"min": (a, b - a, c), "max": (0, a, 0)}.get(self.kind, (0, MOST, a))
             yield (tail, head), cost, at, low, room
 
     def spread(self, graph: Graph, flow: Union[Sequence[int], Column]) -> Column:
@@ -51,11 +50,11 @@ class ArcLines:
         given = numbers_of(flow, "flow[{}]".format)
         if len(given) != len(graph):
             raise ValueError(f"the graph has {len(graph)} arcs, and the flow {len(given)} numbers")
-        wanted: dict[tuple[int, int], int] = {}
+        wanted = Counter[tuple[int, int]]()
         for tail, head, units in zip(graph.tails.tolist(), graph.heads.tolist(), given):
             if units < 0:
                 raise ValueError(f"an arc from {tail} to {head} has {units} units")
-            wanted[tail, head] = wanted.get((tail, head), 0) + units
+            wanted[tail, head] += units
         found = array("q", bytes(8 * len(self)))
         for pair, lines in groupby(sorted(self._parts()), key=lambda it: it[0]):
             group = list(lines)
@@ -67,8 +66,8 @@ class ArcLines:
                 raise ValueError(f"the units from {pair[0]} to {pair[1]} are not between what its lines allow")
         if wanted:
             raise ValueError(f"the text has no arc line from {min(wanted)[0]} to {min(wanted)[1]}")
-        units_of_lines: Column = column(found)
-        return units_of_lines
+        of_lines: Column = column(found)
+        return of_lines
 
     def flow_lines(self, units: Union[Sequence[int], Column]) -> Iterator[bytes]:
         """Yields the line `f TAIL HEAD UNITS` of each arc line, in the order of the text."""

@@ -115,21 +115,15 @@ def text_of(entries: Iterable[Entry], form: int, has_marks: bool = False) -> str
     return f"# form {form}, {len(lines)} {'file' if len(lines) == 1 else 'files'}\n" + "".join(lines)
 
 
-def lines_of(text: str) -> list[str]:
-    """Returns the lines of a manifest. Raises ValueError if the last one has no end, or if one ends in CR LF."""
-    lines = text.split("\n")
-    if lines.pop():
-        raise ValueError("its last line has no end: it is cut")
-    if any(it.endswith("\r") for it in lines):
-        raise ValueError("its lines end in CR LF, and those of a manifest in LF")
-    return lines
-
-
 def entries_of(text: str) -> tuple[dict[str, Entry], bool]:
     """Returns the entries of a manifest by the names of the files, and whether it says its form. Raises ValueError for
     a line that no manifest can have, for a line with a mark that is not as it was written, for a file that is listed
     twice, and for a manifest that is cut."""
-    lines = lines_of(text)
+    *lines, rest = text.split("\n")
+    if rest:
+        raise ValueError("its last line has no end: it is cut")
+    if any(it.endswith("\r") for it in lines):
+        raise ValueError("its lines end in CR LF, and those of a manifest in LF")
     heads = [head.groups() for head in map(HEAD.fullmatch, lines) if head]
     forms = {form for form, _ in heads}
     if len(forms) > 1:

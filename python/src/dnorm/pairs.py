@@ -6,7 +6,7 @@ from array import array
 from collections import Counter
 from collections.abc import Iterator
 from dataclasses import dataclass
-from itertools import chain, groupby
+from itertools import groupby
 from operator import itemgetter
 from typing import Any, NamedTuple
 
@@ -89,12 +89,9 @@ def arcs_around(it: Graph, node: int) -> dict[Key, Arcs]:
         places = [at for at, ends in enumerate(zip(it.tails, it.heads)) if node in ends]
     else:
         places = np.flatnonzero((it.tails == node) | (it.heads == node)).tolist()
-    columns = [it.tails, it.heads, *(getattr(it, name) for name in VALUES[it.kind].values())]
-    found: dict[Key, Arcs] = {}
-    for at in places:
-        tail, head, *values = (int(column[at]) for column in columns)
-        found[tail, head] = (*found.get((tail, head), ()), tuple(values))
-    return found
+    keys, values = ([[int(column[at]) for at in places] for column in columns] for columns in rows_of(it))
+    arcs = zip(zip(*keys), zip(*values))
+    return {key: tuple(arc for _, arc in group) for key, group in groupby(arcs, itemgetter(0))}
 
 
 def paired(left: Instance, right: Instance, limit: int | None, time: Limit) -> dict[str, Any]:
@@ -115,14 +112,12 @@ def paired(left: Instance, right: Instance, limit: int | None, time: Limit) -> d
             time.left()
         where = "both" if one and other else "only_left" if one else "only_right"
         counts[where] += 1
-        if one == other:
-            continue
         if where != "both":
             # It is compared with its opposite.
             alone.append(PairDifference(key, one, other))
-        elif limit is None or len(shared) < limit:
-            shared.append(PairDifference(key, one, other))
-        if where == "both":
+        elif one != other:
+            if limit is None or len(shared) < limit:
+                shared.append(PairDifference(key, one, other))
             counts["different"] += 1
             fields[differing_fields(left.kind, one, other)] += 1
     turned = reversed_pairs(alone) if isinstance(left, Graph) else ()
@@ -165,20 +160,13 @@ def pairs_of(rows: Rows) -> Iterator[tuple[Key, Arcs]]:
 def merged(left: Iterator[tuple[Key, Arcs]], right: Iterator[tuple[Key, Arcs]]) -> Iterator[tuple[Key, Arcs, Arcs]]:
     """Yields each key that one of two texts has, by rising keys, with the arcs of both."""
     ours, theirs = next(left, None), next(right, None)
-    while ours and theirs:
-        (key, one), (other_key, other) = ours, theirs
-        if key == other_key:
-            yield key, one, other
-        elif key < other_key:
-            yield key, one, ()
-        else:
-            yield other_key, (), other
-        if key <= other_key:
-            ours = next(left, None)
-        if key >= other_key:
-            theirs = next(right, None)
-    yield from ((key, arcs, ()) for key, arcs in chain([ours] if ours else [], left))
-    yield from ((key, (), arcs) for key, arcs in chain([theirs] if theirs else [], right))
+    while ours or theirs:
+        key, one, other = min(it[0] for it in (ours, theirs) if it), Arcs(), Arcs()
+        if ours and ours[0] == key:
+            (_, one), ours = ours, next(left, None)
+        if theirs and theirs[0] == key:
+            (_, other), theirs = theirs, next(right, None)
+        yield key, one, other
 
 
 def differing_fields(kind: str, left: Arcs, right: Arcs) -> str:

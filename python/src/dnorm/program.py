@@ -39,9 +39,12 @@ def page() -> str:
 
 def placed(name: str, places: Sequence[str]) -> str:
     """Returns the path of a file that is in one of these places, or nothing."""
-    here = os.path.dirname(os.path.realpath(__file__))
-    found = (os.path.normpath(os.path.join(here, it, name)) for it in places)
-    return next(filter(os.path.isfile, found), "")
+    return next(filter(os.path.isfile, (place(name, it) for it in places)), "")
+
+
+def place(name: str, folder: str) -> str:
+    """Returns the path of a file in a folder, which is named from here."""
+    return os.path.normpath(os.path.join(os.path.dirname(os.path.realpath(__file__)), folder, name))
 
 
 def processors() -> int:

@@ -9,8 +9,8 @@ from .answers import Form
 from .calls import checked_form
 from .columns import Own
 from .files import File, Text, enough_memory, name_of
-from .instances import AnyInstance, Co, Max, Min, P2p, Sp, Ss
-from .library import Held, LinesRead, held
+from .instances import CLASSES, AnyInstance, column_names
+from .library import GRAPHS, Held, LinesRead, held
 from .limits import Limit
 from .lines import ArcLines
 
@@ -44,15 +44,12 @@ def read(
 
 def instance_by(found: Held, form: int) -> AnyInstance:
     """Returns the instance that the library has read, which keeps the columns."""
-    columns: list[Any] = [*map(Own, found.columns(form))]
+    values: dict[str, Any] = dict(zip(column_names(CLASSES[found.kind]), map(Own, found.columns(form))))
+    if found.kind in GRAPHS:
+        values["nodes"] = found.nodes
     if found.kind == "min":
-        tails, heads, lows, caps, costs = columns
-        return Min(found.nodes, tails, heads, dict(found.items()), lows, caps, costs)
+        values["supplies"] = dict(found.items())
     if found.kind == "max":
-        tails, heads, capacities = columns
-        source, sink = found.items()[0]
-        return Max(found.nodes, tails, heads, source, sink, capacities)
-    if found.kind == "sp":
-        return Sp(found.nodes, *columns)
-    companions: dict[str, type[Union[Ss, P2p, Co]]] = {"ss": Ss, "p2p": P2p, "co": Co}
-    return companions[found.kind](*columns)
+        values["source"], values["sink"] = found.items()[0]
+    made: AnyInstance = CLASSES[found.kind](**values)
+    return made

@@ -7,18 +7,19 @@ import functools
 import json
 import os
 import time
-from collections.abc import Callable, Iterable, Iterator, Sequence
+from collections import defaultdict
+from collections.abc import Iterable, Iterator, Sequence
 from dataclasses import dataclass
 from operator import mul
-from typing import Literal, NamedTuple, Optional, Union
+from typing import Any, Literal, NamedTuple, Optional, Union
 
 from .answers import Form
 from .calls import SummedText, forms_of
 from .columns import Column, least_and_greatest, numpy_here
 from .errors import DnormError, Memory, Read, Refused
-from .files import Text, enough_memory, reason_of
+from .files import Text, reason_of
 from .instances import AnyInstance, Co, Graph, Min
-from .library import GRAPHS, held
+from .library import GRAPHS, Held, held
 from .limits import Limit
 from .names import COMPANIONS, KINDS, parts_of
 from .pairs import VALUES
@@ -118,13 +119,11 @@ class Record(NamedTuple):
 
     def as_dict(self) -> dict[str, object]:
         """Returns the members of the JSON object."""
-        found: dict[str, object] = {"name": self.name, "status": self.status, "kind": self.kind}
-        found["forms"] = self.forms
+        found: dict[str, object] = {it: getattr(self, it) for it in ("name", "status", "kind", "forms")}
         found["error"] = f"{self.name}{self.what}" if self.error else None
-        for it in ("line", "number", "word", "sentence", "text"):
-            found[it] = getattr(self.error, it) if isinstance(self.error, Refused) else None
-        found |= {"hint": self.hint, "remarks": self.remarks, **{it: getattr(self, it) for it in SIZES}}
-        found |= {"checksum": self.checksum, "graphs": self.graphs}
+        # Only a refusal has these.
+        found |= {it: getattr(self.error, it, None) for it in ("line", "number", "word", "sentence", "text")}
+        found |= {it: getattr(self, it) for it in ("hint", "remarks", *SIZES, "checksum", "graphs")}
         found["not_accepted"] = None if self.graphs is None else self.not_accepted
         found["seconds"] = round(self.seconds, 6)
         if self.contents:
@@ -153,21 +152,18 @@ class Partners:
     roads.co belong to roads.gr."""
 
     def __init__(self, names: Iterable[str]) -> None:
-        self.graphs: dict[str, list[str]] = {}
-        self.companions: dict[str, list[str]] = {}
+        self.graphs, self.companions = defaultdict[str, list[str]](list), defaultdict[str, list[str]](list)
         found = set(names)
         for folder in {os.path.dirname(it) for it in found}:
             # A folder that cannot be listed hides the partners of its files, except for those that are named.
             with contextlib.suppress(OSError):
                 found.update(os.path.join(folder, it) for it in os.listdir(folder or "."))
-        for it in sorted(found):
-            self._add(it)
-
-    def _add(self, name: str) -> None:
-        stem, ending = parts_of(name)
-        for endings, found in [(WITH_COMPANIONS, self.graphs), (COMPANIONS, self.companions)]:
-            if ending in endings:
-                found.setdefault(stem, []).append(name)
+        for name in sorted(found):
+            stem, ending = parts_of(name)
+            if ending in WITH_COMPANIONS:
+                self.graphs[stem].append(name)
+            elif ending in COMPANIONS:
+                self.companions[stem].append(name)
 
     def companions_of(self, name: str) -> list[str]:
         """Returns the companions of a graph."""
@@ -208,9 +204,7 @@ class Reading:
         return found._replace(seconds=time.monotonic() - start)
 
     def _accepted(self, name: str) -> Record:
-        graphs = self.partners.graphs_of(name) if self.partners else None
-        with enough_memory(name):
-            found = self._read(name, graphs)
+        found = self._read(name, self.partners.graphs_of(name) if self.partners else None)
         expected = KINDS.get(parts_of(name)[1], found.kind)
         if expected != found.kind:
             found = found._replace(named=expected)
@@ -224,11 +218,6 @@ class Reading:
             is_whole = self.tells in ("whole", "contents")
             text = SummedText(name, stack, limit) if is_whole else Text(name, stack, limit)
             it = stack.enter_context(held(text))
-
-            def fit(graph: str) -> None:
-                with contextlib.ExitStack() as inner:
-                    inner.enter_context(held(Text(graph, inner, limit))).check_fit(it)
-
             found, checksum = Record(name, it.kind), functools.cache(it.checksum)
             if self.tells != "kind":
                 found = found._replace(checksum=checksum(self.form))
@@ -240,23 +229,26 @@ class Reading:
                     found = found._replace(nodes=it.nodes, merged=it.lines - it.pairs, self_loops=loops)
             if self.tells == "contents":
                 found = found._replace(contents=contents_of(instance_by(it, self.form)))
-            found = beside(found, graphs, fit)
+            if graphs is not None:
+                fits, others = fitting(graphs, it, limit)
+                found = found._replace(graphs=fits, not_accepted=others)
         return found
 
 
-def beside(found: Record, graphs: Optional[Sequence[str]], fit: Callable[[str], None]) -> Record:
-    """Returns the record of a companion with the graphs of its name. `fit` raises an error for one that the companion
-    does not fit, and for one that is refused or cannot be read."""
+def fitting(graphs: Iterable[str], it: Held, limit: Limit) -> tuple[tuple[str, ...], tuple[str, ...]]:
+    """Returns which graphs a companion fits, and which are refused or cannot be read. Raises Refused if the companion,
+    the file of the limit, does not fit one."""
     fits, others = [], []
-    for graph in graphs or ():
+    for graph in graphs:
         try:
-            fit(graph)
+            with contextlib.ExitStack() as stack:
+                stack.enter_context(held(Text(graph, stack, limit))).check_fit(it)
             fits.append(graph)
         except (Refused, Read) as error:
-            if error.name == found.name:
+            if error.name == limit.name:
                 raise
             others.append(graph)
-    return found if graphs is None else found._replace(graphs=tuple(fits), not_accepted=tuple(others))
+    return tuple(fits), tuple(others)
 
 
 def without_arcs(it: Graph) -> int:
@@ -274,22 +266,17 @@ def without_arcs(it: Graph) -> int:
 def contents_of(it: AnyInstance) -> Contents:
     """Returns what an instance contains."""
     columns: dict[str, Union[Column, list[int]]] = {}
-    flows = list(it.supplies.values()) if isinstance(it, Min) else []
+    found = Contents(without_arcs(it) if isinstance(it, Graph) else None, None, None, None, None, {})
     if isinstance(it, Min):
-        columns["flow"] = flows
+        flows = columns["flow"] = list(it.supplies.values())
+        costly = sum(map(mul, it.caps.tolist(), map(abs, it.costs.tolist())))
+        supply, demand = sum(flow for flow in flows if flow > 0), -sum(flow for flow in flows if flow < 0)
+        found = found._replace(capacity_times_cost=costly, supply=supply, demand=demand)
     elif isinstance(it, Co):
         columns["id"] = it.ids
     columns.update((field, getattr(it, column)) for field, column in VALUES[it.kind].items())
-    caps = getattr(it, VALUES[it.kind].get("cap", ""), None)
-    costly = sum(map(mul, it.caps.tolist(), map(abs, it.costs.tolist()))) if isinstance(it, Min) else None
-    return Contents(
-        without_arcs=without_arcs(it) if isinstance(it, Graph) else None,
-        capacity=sum(caps.tolist()) if caps is not None else None,
-        capacity_times_cost=costly,
-        supply=sum(flow for flow in flows if flow > 0) if isinstance(it, Min) else None,
-        demand=-sum(flow for flow in flows if flow < 0) if isinstance(it, Min) else None,
-        fields=dict(ranges(columns)),
-    )
+    caps: Any = columns.get("cap")
+    return found._replace(capacity=None if caps is None else sum(caps.tolist()), fields=dict(ranges(columns)))
 
 
 def ranges(columns: dict[str, Union[Column, list[int]]]) -> Iterator[tuple[str, Range]]:

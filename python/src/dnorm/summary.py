@@ -4,13 +4,12 @@ from __future__ import annotations
 
 import contextlib
 import dataclasses
-from collections.abc import Iterator
-from typing import Optional, Union
+from typing import Any, Optional, Union
 
 from .answers import AnyDifference, Same, table
 from .calls import both_read
 from .files import File, enough_memory, name_of
-from .instances import AnyInstance, Graph, Instance, Max, Min, whole
+from .instances import AnyInstance, Graph, Min, whole
 from .library import GRAPHS
 from .limits import Limit
 from .pairs import Key, PairDifference, arcs_around, paired
@@ -90,22 +89,11 @@ def summary(
     """Returns the differences between two instances."""
     if left.kind != right.kind:
         return Differences(first, left, right)
-    counted = paired(left, right, limit, time)
-    supplies, values = differing_supplies(left, right), tuple(differing_values(left, right))
+    counted, supplies = paired(left, right, limit, time), 0
+    if isinstance(left, Min) and isinstance(right, Min):
+        # No flow is 0, so a node that one text alone has differs.
+        supplies = len(dict(left.supplies.items() ^ right.supplies.items()))
+    # What a kind does not have is None on both sides.
+    both = ((name, *(getattr(it, name, None) for it in (left, right))) for name in ("nodes", "source", "sink"))
+    values: Any = tuple(it for it in both if it[1] != it[2])
     return Differences(first, left, right, left.kind, supplies=supplies, values=values, **counted)
-
-
-def differing_supplies(left: Instance, right: Instance) -> int:
-    """Returns the number of nodes whose flows differ."""
-    if not isinstance(left, Min) or not isinstance(right, Min):
-        return 0
-    nodes = left.supplies.keys() | right.supplies.keys()
-    return sum(left.supplies.get(it, 0) != right.supplies.get(it, 0) for it in nodes)
-
-
-def differing_values(left: Instance, right: Instance) -> Iterator[tuple[str, int, int]]:
-    """Yields the names of the values besides arcs and flows that differ, with both values."""
-    names = [*(["nodes"] if isinstance(left, Graph) else []), *(["source", "sink"] if isinstance(left, Max) else [])]
-    for name in names:
-        if getattr(left, name) != getattr(right, name):
-            yield name, getattr(left, name), getattr(right, name)

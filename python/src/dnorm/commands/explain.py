@@ -107,7 +107,11 @@ def causes_of(told: str) -> Iterator[str]:
     """Yields what shows the cause of what a line tells."""
     refused, other = REFUSED_LINE.fullmatch(told), OTHER_LINE.fullmatch(told)
     if other and other[2] == "1" and other[1] != "-":
-        yield from reason_of_failure(other[1])
+        try:
+            with open(other[1], "rb", buffering=0, opener=lambda it, flags: os.open(it, flags | os.O_NONBLOCK)) as file:
+                file.read(1)
+        except OSError as error:
+            yield reason_of(error)
     if other and other[3]:
         yield from causes_in(other[1], None, 35, int(other[3]))
     if other and other[2] == "6":
@@ -119,27 +123,18 @@ def causes_of(told: str) -> Iterator[str]:
 def causes_in(name: str, line: int | None, number: int, node: int | None) -> Iterator[str]:
     """Yields what shows the cause of a refusal in a file."""
 
-    @contextlib.contextmanager
-    def text() -> Iterator[Iterator[bytes]]:
-        with open(name, "rb", buffering=0) as file:
-            yield of_stream(file)
-
     if name == "-" or not os.path.isfile(name):
         return
-    with contextlib.suppress(OSError):
+    with contextlib.suppress(OSError), open(name, "rb", buffering=0) as file:
+
+        def text() -> Iterator[bytes]:
+            file.seek(0)
+            return of_stream(file)
+
         cause = cause_of(text, name, line, number, node)
         if line is not None:
             yield f"line {line}: {cause.text or ''}"
         yield from cause.hints
-
-
-def reason_of_failure(name: str) -> Iterator[str]:
-    """Yields why a file cannot be read."""
-    try:
-        with open(name, "rb", buffering=0, opener=lambda it, flags: os.open(it, flags | os.O_NONBLOCK)) as file:
-            file.read(1)
-    except OSError as error:
-        yield reason_of(error)
 
 
 def wrong_words(words: Sequence[str]) -> Iterator[str]:

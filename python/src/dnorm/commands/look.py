@@ -7,12 +7,12 @@ import html
 import json
 import os
 import re
-from collections import Counter
+from collections import Counter, defaultdict
 from collections.abc import Iterable, Sequence
 from typing import Optional
 
 from ..answers import Difference
-from ..console import bytes_of
+from ..console import shown
 from ..errors import NoProgram, Refused
 from ..folders import Collection
 from ..instances import Graph, Min
@@ -60,11 +60,6 @@ def shared(name: str) -> str:
         return file.read()
 
 
-def shown(text: str) -> str:
-    """Returns a text in which each character that cannot be printed is written as \\xNN, as a byte of it."""
-    return "".join(it if it.isprintable() else bytes_of(it) for it in text)
-
-
 def escaped(text: object) -> str:
     return html.escape(shown(str(text)))
 
@@ -97,10 +92,8 @@ def folded(title: str, names: Sequence[str], most: int = LISTED) -> str:
 
 def page_of_pair(found: Differences, left: str, right: str) -> str:
     """Returns the page of where two files differ."""
-    first, names = (
-        found.first,
-        f"<p><b class=left>Left</b> {escaped(left)}<br><b class=right>Right</b> {escaped(right)}",
-    )
+    first = found.first
+    names = f"<p><b class=left>Left</b> {escaped(left)}<br><b class=right>Right</b> {escaped(right)}"
     if not isinstance(first, Difference):
         return page("Two files of one problem", True, "Both files pose the same problem.", [names], {})
     title, sentence, data = "Where two files differ", SAID[first.what].format(**vars(first)), {}
@@ -171,12 +164,12 @@ def page_of_folder(it: Collection, folder: str, status: int, changes: Optional[C
     if changes:
         parts.append(section("Since the manifest, of accepted files", *since(it, changes)))
     parts += [section("Sizes", "<div id=sizes></div>"), section("Refused and failed files", *refusals(it.records))]
-    parts.append(
-        section(f"Groups of files of one problem: {len(groups)}", *(folded(one[0], one, FILES) for one in groups[:50]))
-    )
-    noted: dict[str, list[str]] = {}
-    for name, remark in ((one.name, remark.partition(":")[0]) for one in it.records for remark in one.remarks):
-        noted.setdefault(remark, []).append(name)
+    told = (folded(one[0], one, FILES) for one in groups[:50])
+    parts.append(section(f"Groups of files of one problem: {len(groups)}", *told))
+    noted = defaultdict[str, list[str]](list)
+    for one in it.records:
+        for remark in one.remarks:
+            noted[remark.partition(":")[0]].append(one.name)
     parts.append(section("Remarks", *(folded(remark, names, FILES) for remark, names in noted.items())))
     parts.append(section("Files", "<div id=files></div>"))
     is_good = status == 0 and it.counts["accepted"] > 0
@@ -206,19 +199,16 @@ def cause_of(it: Record) -> str:
 
 def refusals(records: Sequence[Record]) -> list[str]:
     """Returns the refused and failed files by their causes, with lines and hints."""
-    causes: dict[str, list[Record]] = {}
+    causes, made = defaultdict[str, list[Record]](list), []
     for it in records:
         if it.error:
-            causes.setdefault(cause_of(it), []).append(it)
-    made = []
+            causes[cause_of(it)].append(it)
     for cause, found in sorted(causes.items(), key=lambda it: -len(it[1]))[:CAUSES]:
         cells = []
         for it in found[:FILES]:
             line, text = (it.error.line, it.error.text) if isinstance(it.error, Refused) else (None, None)
-            place = f":{line}" if line else ""
-            cells.append(
-                [escaped(f"{it.name}{place}"), f"<code>{escaped((text or '')[:120])}</code>", escaped(it.hint or "")]
-            )
+            code = f"<code>{escaped((text or '')[:120])}</code>"
+            cells.append([escaped(f"{it.name}:{line}" if line else it.name), code, escaped(it.hint or "")])
         more = f"<p>And {len(found) - FILES} more, in the table of files.</p>" if len(found) > FILES else ""
         summary = f"<summary>{escaped(cause)}: {len(found)}</summary>{table(['File', 'Line', 'Hint'], cells)}{more}"
         made.append(f"<details{' open' * (len(causes) < 4)}>{summary}</details>")
@@ -228,11 +218,11 @@ def refusals(records: Sequence[Record]) -> list[str]:
 def groups_of(records: Sequence[Record]) -> list[list[str]]:
     """Returns the names of files that pose the same problem, in groups, the largest first. Links to a file are left
     out."""
-    found: dict[str, dict[tuple[int, int], str]] = {}
+    found = defaultdict[str, dict[tuple[int, int], str]](dict)
     for it in records:
         if it.checksum and os.path.exists(it.name):
             of = os.stat(it.name)
-            found.setdefault(it.checksum, {}).setdefault((of.st_dev, of.st_ino), it.name)
+            found[it.checksum].setdefault((of.st_dev, of.st_ino), it.name)
     return sorted((list(it.values()) for it in found.values() if len(it) > 1), key=lambda it: -len(it))
 
 

@@ -67,21 +67,21 @@ class Run:
     def is_json(self) -> bool:
         return bool(getattr(self.words, "json", False)) or getattr(self.words, "format", "") == "json"
 
-    def reading(self) -> Reading:
-        """Returns how checksums are read, and with them what JSON has."""
-        words = self.words
-        tells: Tells = "whole" if self.is_json else "checksum"
-        return Reading(words.form, tells=tells, timeout=words.timeout)
+    def reading(self, tells: Tells, partners: Optional[Partners] = None, is_strict: bool = False) -> Reading:
+        """Returns how files are read whose records tell so much, and more as JSON."""
+        tells = "whole" if self.is_json and tells != "contents" else tells
+        return Reading(self.words.form, partners, is_strict, tells, self.words.timeout)
 
     def check(self) -> None:
         """Checks files, and prints a line for each, and at the end the refusals with their causes."""
         words = self.words
         with contextlib.ExitStack() as stack:
-            found = self.staged(stack) if words.staged is not None else self.found()
+            if words.staged is not None:
+                # The texts are in another folder, which becomes the current one.
+                words.junit = words.junit and os.path.abspath(words.junit)
+            found = self.found() if words.staged is None else staged(words.staged or None, stack)
             report = stack.enter_context(sink_of(words.junit)) if words.junit else None
-            partners = self.partners(found) if words.companions else None
-            tells: Tells = "whole" if self.is_json else "kind"
-            reading = Reading(1, partners, words.strict, tells, words.timeout)
+            reading = self.reading("kind", self.partners(found) if words.companions else None, words.strict)
             self.print_rest = self.print_end
             self.read(found, reading.record, self.print_record)
             if report:
@@ -97,13 +97,6 @@ class Run:
             found.files.update(dict.fromkeys(it for it in partners.companions_of(name) if it not in found.files))
         return partners
 
-    def staged(self, stack: contextlib.ExitStack) -> Found:
-        """Returns the texts that git has staged."""
-        words = self.words
-        # The texts are in another folder, which becomes the current one.
-        words.junit = words.junit and os.path.abspath(words.junit)
-        return staged(words.staged or None, stack)
-
     def sum_up_checks(self) -> None:
         """Prints what was counted of checks."""
         found = counts_of(self.records)
@@ -113,10 +106,8 @@ class Run:
         """Prints what the check of a file leads to. Of what is staged, refused and failed files come at the end."""
         if not it.error and not it.remarks and (self.words.quiet or self.words.staged is not None):
             return
-        if self.words.format == "json":
-            self.console.print(it.as_json())
-        elif self.words.format == "github":
-            self.console.print(annotation_of(it))
+        if self.words.format != "text":
+            self.console.print(it.as_json() if self.is_json else annotation_of(it))
         elif not it.error or self.words.staged is None:
             self.console.print(line_of(it))
 
@@ -133,7 +124,7 @@ class Run:
     def manifest(self) -> None:
         """Prints the canonical checksum of each file, or writes them into a file. If that is one with the marks of
         files, those that have not changed are not read."""
-        words, reading, target = self.words, self.reading(), None
+        words, reading, target = self.words, self.reading("checksum"), None
         output = words.output if words.incremental is None else words.incremental
         # There may be no such file yet.
         is_renewed = words.incremental is not None and os.path.lexists(words.incremental)
@@ -221,7 +212,7 @@ class Run:
     def same(self) -> None:
         """Prints groups of files that pose the same problem. A link to a file of a group is none of them."""
         groups: dict[str, dict[tuple[int, int], str]] = {}
-        links, reading = 0, self.reading()
+        links, reading = 0, self.reading("checksum")
 
         def task(name: str) -> tuple[Record, Mark | None]:
             record = reading.record(name)
@@ -254,20 +245,19 @@ class Run:
 
     def list(self) -> None:
         """Prints what each file contains."""
-        words, rows = self.words, 0
-        reading = Reading(words.form, tells="contents", timeout=words.timeout)
+        rows = 0
 
         def take(it: Record) -> None:
             nonlocal rows
             if it.error or self.is_json:
                 self.tell(it)
-            elif words.csv:
+            elif self.words.csv:
                 self.console.print(row_of(it, not rows))
                 rows += 1
             else:
                 self.console.print(line_with(it.name, after=f": {it.kind}") + text_of(it))
 
-        self.read(self.found(), reading.record, take)
+        self.read(self.found(), self.reading("contents").record, take)
         self.sum_up({})
 
     def compare(self) -> None:
@@ -293,12 +283,11 @@ class Run:
             self.own = 0 if compared.first else DIFFERS
             return
         older = None if words.since is None else read_manifest(words.since)
-        form = older.form if older else words.form
+        words.form = older.form if older else words.form
         found = find(words.path, words.ending, words.exclude)
         self.others, self.excluded = len(found.others), found.excluded
-        reading = Reading(form, self.partners(found), timeout=words.timeout)
-        self.read(found, reading.record, lambda _: None)
-        collection = Collection(tuple(self.records), found.others, found.excluded, form)
+        self.read(found, self.reading("whole", self.partners(found)).record, lambda _: None)
+        collection = Collection(tuple(self.records), found.others, found.excluded, words.form)
         changes = manifest_changes(older, collection.manifest) if older else None
         self.console.print(page_of_folder(collection, words.path[0], self.status, changes))
         self.sum_up_checks()
@@ -332,7 +321,8 @@ class Run:
             self.records.append(result[0])
             take(*result)
 
-        self.console.expect(len(names), self.sizes(names))
+        size = sum(os.path.getsize(it) for it in names if os.path.isfile(it)) if self.console.is_terminal else 0
+        self.console.expect(len(names), size)
         workers, ended = Workers(one, names, self.words.jobs), 0
         try:
             for at in range(len(names)):
@@ -353,10 +343,6 @@ class Run:
 
             self.take_rest = take_rest
             raise
-
-    def sizes(self, names: Sequence[str]) -> int:
-        """Returns the sum of the sizes of files, for the progress on a terminal."""
-        return sum(os.path.getsize(it) for it in names if os.path.isfile(it)) if self.console.is_terminal else 0
 
     def stop(self) -> None:
         """Prints what is known of a run that a signal ends."""

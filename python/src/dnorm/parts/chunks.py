@@ -18,7 +18,7 @@ from argparse import Namespace
 from collections.abc import Iterator, Sequence
 from concurrent.futures import FIRST_EXCEPTION, ThreadPoolExecutor, wait
 from dataclasses import dataclass
-from itertools import chain
+from itertools import chain, islice
 from typing import BinaryIO, NamedTuple
 
 from ..console import Console
@@ -57,7 +57,7 @@ class Chunk:
 
     path: str
     before: int
-    arcs: Piece
+    arcs: Piece = Piece("", 0, 0)
 
 
 class Fault(NamedTuple):
@@ -159,9 +159,7 @@ class Parts:
         for path in paths[:first]:
             os.remove(path)
         os.replace(rest, paths[first])
-        count = self.options.lines
-        nothing = Piece("", 0, 0)
-        chunks = [Chunk(path, number * count, nothing) for number, path in enumerate(paths)][first:]
+        chunks = [Chunk(path, number * self.options.lines) for number, path in enumerate(paths)][first:]
         chunks[0].before += before
         return chunks
 
@@ -301,13 +299,8 @@ def end_of_line(block: bytes, number: int) -> int:
 
 def end_of(path: str, number: int) -> int:
     """Returns where the line of this number ends in a file."""
-    at = 0
-    for block in lines(whole(path)):
-        count = block.count(b"\n")
-        if number <= count:
-            return at + end_of_line(block, number)
-        at, number = at + len(block), number - count
-    return at
+    with open(path, "rb") as file:
+        return sum(map(len, islice(file, number)))
 
 
 def line_count(piece: Piece) -> int:
@@ -329,13 +322,8 @@ def first_arc(paths: Sequence[str]) -> tuple[int, int] | None:
 
 def line_of_arc(path: str, number: int) -> int:
     """Returns the number of the line of a file with this arc line, counted among the arc lines."""
-    line = 0
-    for block in lines(whole(path)):
-        found = [it.start() for it in ARC.finditer(block)]
-        if number <= len(found):
-            return line + block.count(b"\n", 0, found[number - 1]) + 1
-        line, number = line + block.count(b"\n"), number - len(found)
-    raise ValueError(number)
+    with open(path, "rb") as file:
+        return next(islice((at for at, line in enumerate(file, 1) if ARC.match(line)), number - 1, None))
 
 
 def tail_on(line: bytes) -> int:

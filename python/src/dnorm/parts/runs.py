@@ -11,7 +11,7 @@ import threading
 from collections.abc import Iterable, Iterator, Sequence
 from typing import Any, BinaryIO, Union, cast
 
-from ..errors import DnormError, Memory, NoProgram, Refused, Write
+from ..errors import DnormError, Failed, Memory, NoProgram, Refused, Write
 from ..files import reason_of, write_all
 from ..refusals import REFUSALS
 
@@ -19,12 +19,8 @@ from ..refusals import REFUSALS
 LINE = re.compile(r"(-|out|dnorm)(?::(\d+|end))?: (\d+) (\w+)\n", re.ASCII)
 
 
-class Broken(DnormError):
+class Broken(Failed):
     """A run of the program ended otherwise than the program does."""
-
-    def __init__(self, reason: str) -> None:
-        super().__init__("dnorm", reason)
-        self.reason = reason
 
     @property
     def rest(self) -> str:
@@ -42,7 +38,15 @@ class Children:
     @contextlib.contextmanager
     def running(self, words: Sequence[str], **streams: Any) -> Iterator[subprocess.Popen[bytes]]:
         """Starts a process, and waits for its end. Kills it if anything is raised."""
-        process = self._started(words, streams)
+        # `stop` waits for a process that is being started.
+        with self._lock:
+            if self._is_stopped:
+                raise NoProgram(words[0], "all runs were stopped")
+            try:
+                process = subprocess.Popen(words, bufsize=0, **streams)
+            except (OSError, ValueError) as error:
+                raise NoProgram(words[0], reason_of(error)) from error
+            self._running.add(process)
         try:
             yield process
         except BaseException:
@@ -55,18 +59,6 @@ class Children:
                     it.close()
             with self._lock:
                 self._running.discard(process)
-
-    def _started(self, words: Sequence[str], streams: dict[str, Any]) -> subprocess.Popen[bytes]:
-        # `stop` waits for a process that is being started.
-        with self._lock:
-            if self._is_stopped:
-                raise NoProgram(words[0], "all runs were stopped")
-            try:
-                process = subprocess.Popen(words, bufsize=0, **streams)
-            except (OSError, ValueError) as error:
-                raise NoProgram(words[0], reason_of(error)) from error
-            self._running.add(process)
-            return process
 
     def stop(self) -> None:
         """Kills all processes that run, and lets no other start."""
@@ -106,7 +98,7 @@ def ended(process: subprocess.Popen[bytes]) -> int:
     except ChildProcessError as error:
         # Popen takes a status that is lost for 0.
         reason = "its status is lost, since SIGCHLD is ignored or something else waits for all processes"
-        raise Broken(f"did not answer as it should ({reason})") from error
+        raise Broken("dnorm", f"did not answer as it should ({reason})") from error
     return process.wait()
 
 
@@ -114,7 +106,7 @@ def error_of(line: str, status: int) -> DnormError | None:
     """Returns the error that a run with this line on standard error has ended with, if any."""
     if status < 0:
         names = {it.value: f" ({it.name})" for it in signal.Signals}
-        return Broken(f"was ended by signal {-status}{names.get(-status, '')}")
+        return Broken("dnorm", f"was ended by signal {-status}{names.get(-status, '')}")
     found = LINE.fullmatch(line)
     name, place, number, word = found.groups() if found else ("", "", "0", "")
     is_known = REFUSALS.get(int(number), ("", ""))[0] == word and bool(place) == (int(number) < 30)
@@ -124,4 +116,5 @@ def error_of(line: str, status: int) -> DnormError | None:
         return Write("out")
     if is_known and status == 4 and number == "30" and name != "out":
         return Memory(name)
-    return Broken(f"did not answer as it should (its status was {status}, and it printed {line!r})") if status else None
+    reason = f"did not answer as it should (its status was {status}, and it printed {line!r})"
+    return Broken("dnorm", reason) if status else None
