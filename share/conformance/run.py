@@ -62,6 +62,7 @@ import threading
 import time
 import xml.etree.ElementTree
 import zlib
+from collections import Counter
 from collections.abc import Iterable, Iterator, Sequence
 from concurrent.futures import ThreadPoolExecutor, wait
 from typing import Any, NamedTuple, NoReturn
@@ -388,11 +389,11 @@ class Runner:
             with tempfile.TemporaryDirectory(prefix="conformance-") as folder:
                 yield from self.files(case, folder)
             return
-        given, size, is_right = joined(case["text"]), self.way(case["id"]), True
-        for failure in self.wrong(f"check{self.by(size)}", self.call(["check", "-"], given, size), case):
-            yield failure
-            is_right = False
-        if self.level < LEVELS.index("canon") or not is_right:
+        # By the id alone, so that a case that is added changes no other one.
+        given, size = joined(case["text"]), WAYS[zlib.crc32(case["id"].encode()) % len(WAYS)]
+        wrong = [*self.wrong(f"check{self.by(size)}", self.call(["check", "-"], given, size), case)]
+        yield from wrong
+        if self.level < LEVELS.index("canon") or wrong:
             return
         for form, own in [(1, None if size else sys.maxsize), (2, sys.maxsize if size else None)]:
             found = self.call(["canon", "--form", str(form), "-"], given, own)
@@ -405,11 +406,6 @@ class Runner:
                 yield from self.wrong(call, found, case)
                 if found.out:
                     yield f"{call} printed {told(found)} before the refusal"
-
-    def way(self, name: str) -> int | None:
-        """Returns the size of pieces in which the text of a case arrives. It depends on the id alone, so that a case
-        that is added changes no other one."""
-        return WAYS[zlib.crc32(name.encode()) % len(WAYS)]
 
     def by(self, size: int | None) -> str:
         """Returns how a text arrived, for a person."""
@@ -444,11 +440,10 @@ class Runner:
         for name, path in paths.items():
             with open(path, "wb") as file:
                 file.write(joined(case[name]).encode("latin-1"))
-        call = "compare" if "left" in case else "check --with"
         if "left" in case:
-            found = self.call(["compare", paths["left"], paths["right"]])
+            call, found = "compare", self.call(["compare", paths["left"], paths["right"]])
         else:
-            found = self.call(["check", "-", "--with", paths["with"]], joined(case["text"]))
+            call, found = "check --with", self.call(["check", "-", "--with", paths["with"]], joined(case["text"]))
         if "verdict" in case:
             wanted = (f"{case['verdict']}\n".encode(), 0 if case["verdict"] == "same" else 1)
             if (found.out, found.status) != wanted:
@@ -602,8 +597,10 @@ class Result(NamedTuple):
 
 
 def shown(rule: Case, found: list[Result], is_all: bool) -> Iterator[str]:
-    """Yields the lines on the failures of a rule."""
+    """Yields the lines on the failures of a rule, if there are any."""
     bad = [it for it in found if it.is_bad]
+    if not bad:
+        return
     yield f"{rule['rule']}: {rule['says']} ({rule['section']})"
     yield f"  {len(bad)} of {len(found)} cases fail"
     for it in bad if is_all else bad[:SHOWN]:
@@ -675,19 +672,9 @@ def run_all(runner: Runner, chosen: list[Case], jobs: int) -> Iterator[Result]:
         print("\r\x1b[K", end="", flush=True, file=sys.stderr)
 
 
-def by_rule(rules: list[Case], found: list[Result], is_all: bool) -> Iterator[str]:
-    """Yields the lines on the failures of all rules, in the order of FORMAT.md: a mistake in what the others rest on
-    comes first."""
-    for rule in rules:
-        own = [it for it in found if it.case["rule"] == rule["rule"]]
-        if any(it.is_bad for it in own):
-            yield from shown(rule, own, is_all)
-
-
 def summary(found: list[Result], asked: argparse.Namespace) -> str:
     """Returns the last line."""
-    count = {it: sum(it == own.outcome for own in found) for it in ("passes", "fails as expected", "not tried")}
-    bad = sum(it.is_bad for it in found)
+    count, bad = Counter(it.outcome for it in found), sum(it.is_bad for it in found)
     known = f", {count['fails as expected']} fail as expected" if asked.expect else ""
     left = f", {count['not tried']} are not tried" if count["not tried"] else ""
     return f"{count['passes']} cases pass, {bad} fail{known}{left} (level {asked.level})"
@@ -720,7 +707,9 @@ def tried(rules: list[Case], asked: argparse.Namespace) -> int:
     if asked.shape:
         printed(SHAPES[asked.shape](found, runner.why))
     else:
-        printed(by_rule(rules, found, asked.all))
+        # In the order of FORMAT.md: a mistake in what the others rest on comes first.
+        own = ((it, [one for one in found if one.case["rule"] == it["rule"]]) for it in rules)
+        printed(line for it, results in own for line in shown(it, results, asked.all))
     printed([f"run.py: {runner.why}"] if runner.why else [], bool(asked.shape) or runner.status != FAILED)
     if runner.status == USAGE:
         return USAGE

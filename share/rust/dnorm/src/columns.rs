@@ -149,8 +149,5 @@ impl<I: Index, Number: Copy + TryFrom<i64> + TryInto<usize>> StarOf<I, Number> {
 
 // The error of a number that does not fit.
 pub(crate) fn too_wide() -> TryFromIntError {
-    match i32::try_from(i64::MAX) {
-        Err(error) => error,
-        Ok(_) => unreachable!("2^63-1 does not fit 32 bits"),
-    }
+    i32::try_from(i64::MAX).expect_err("2^63-1 does not fit 32 bits")
 }

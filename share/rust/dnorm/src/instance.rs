@@ -96,14 +96,12 @@ impl Instance {
         lines: Option<Vec<ArcLine>>,
     ) -> Result<Instance, Refusal> {
         let kind = unsafe { sys::dnorm_facts(handle.get()) }.kind;
-        match Kind::of_number(kind) {
-            Some(kind) => Ok(Instance {
-                handle,
-                kind,
-                lines,
-            }),
-            None => Err(refusal::of_another_library()),
-        }
+        let kind = Kind::of_number(kind).ok_or_else(refusal::of_another_library)?;
+        Ok(Instance {
+            handle,
+            kind,
+            lines,
+        })
     }
 
     fn facts(&self) -> sys::dnorm_summary {

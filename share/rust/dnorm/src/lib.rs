@@ -67,17 +67,10 @@ pub enum Kind {
 }
 
 impl Kind {
-    const ALL: [Kind; 6] = [
-        Kind::Min,
-        Kind::Max,
-        Kind::Sp,
-        Kind::Ss,
-        Kind::P2p,
-        Kind::Co,
-    ];
-
     pub(crate) fn of_number(number: u8) -> Option<Kind> {
-        Kind::ALL.iter().copied().find(|it| *it as u8 == number)
+        use Kind::*;
+        let mut all = [Min, Max, Sp, Ss, P2p, Co].into_iter();
+        all.find(|it| *it as u8 == number)
     }
 }
 

@@ -20,10 +20,8 @@ impl Lines {
     pub(crate) fn new() -> Result<Lines, Refusal> {
         let mut handle = Handle::default();
         refusal::checked(unsafe { sys::dnorm_lines_begin(handle.get_mut()) })?;
-        Ok(Lines {
-            handle,
-            rows: Vec::new(),
-        })
+        let rows = Vec::new();
+        Ok(Lines { handle, rows })
     }
 
     /// Takes a piece that the reader of the instance has taken: a line with a fault by itself was refused before.
@@ -59,10 +57,7 @@ pub struct NotAFlow;
 
 impl Display for NotAFlow {
     fn fmt(&self, to: &mut Formatter<'_>) -> Printed {
-        write!(
-            to,
-            "the units of a pair are not between its lower bounds and capacities"
-        )
+        to.write_str("the units of a pair are not between its lower bounds and capacities")
     }
 }
 

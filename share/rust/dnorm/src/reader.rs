@@ -30,12 +30,7 @@ impl Reader {
     ///
     /// Memory ran out.
     pub fn new() -> Result<Reader, Refusal> {
-        let mut handle = Handle::default();
-        refusal::checked(unsafe { sys::dnorm_begin(handle.get_mut()) })?;
-        Ok(Reader {
-            handle,
-            lines: None,
-        })
+        Reader::begun(None)
     }
 
     /// Begins a text whose arc lines the instance is to keep.
@@ -44,11 +39,13 @@ impl Reader {
     ///
     /// Memory ran out.
     pub fn with_lines() -> Result<Reader, Refusal> {
-        let lines = Some(Lines::new()?);
-        Ok(Reader {
-            lines,
-            ..Reader::new()?
-        })
+        Reader::begun(Some(Lines::new()?))
+    }
+
+    fn begun(lines: Option<Lines>) -> Result<Reader, Refusal> {
+        let mut handle = Handle::default();
+        refusal::checked(unsafe { sys::dnorm_begin(handle.get_mut()) })?;
+        Ok(Reader { handle, lines })
     }
 
     /// Feeds the next piece. A piece may end anywhere, and may be empty.

@@ -37,11 +37,10 @@ impl Refusal {
     }
 
     fn words(&self) -> (&'static str, &'static str) {
+        let other = (0, "WrongCall", "The library does not fit this crate.");
         let found = CODES.iter().find(|(number, ..)| *number == self.number);
-        found.map_or(
-            ("WrongCall", "The library does not fit this crate."),
-            |it| (it.1, it.2),
-        )
+        let (_, name, sentence) = *found.unwrap_or(&other);
+        (name, sentence)
     }
 
     /// Whether memory ran out.
@@ -136,18 +135,17 @@ pub(crate) fn checked(status: sys::dnorm_status) -> Result<(), Refusal> {
     }
 }
 
+fn without_place(number: u8) -> Refusal {
+    let place = None;
+    Refusal { number, place }
+}
+
 /// Returns that memory ran out.
 pub(crate) fn memory() -> Refusal {
-    Refusal {
-        number: sys::DNORM_MEMORY,
-        place: None,
-    }
+    without_place(sys::DNORM_MEMORY)
 }
 
 /// Returns the error of a library that does not fit this crate.
 pub(crate) fn of_another_library() -> Refusal {
-    Refusal {
-        number: sys::DNORM_WRONG_CALL,
-        place: None,
-    }
+    without_place(sys::DNORM_WRONG_CALL)
 }
