@@ -66,91 +66,89 @@ impl Random {
         z = (z ^ (z >> 27)).wrapping_mul(0x94D049BB133111EB);
         z ^ (z >> 31)
     }
-    fn below(&mut self, n: u64) -> u64 {
-        ((self.next() as u128 * n as u128) >> 64) as u64
+    fn below(&mut self, n: i64) -> i64 {
+        ((self.next() as u128 * n as u128) >> 64) as i64
     }
     fn range(&mut self, low: i64, high: i64) -> i64 {
-        low + self.below((high - low + 1) as u64) as i64
+        low + self.below(high - low + 1)
     }
-    fn one_in(&mut self, n: u64) -> bool {
+    fn one_in(&mut self, n: i64) -> bool {
         self.below(n) == 0
+    }
+    fn one_of<T: Copy>(&mut self, items: &[T]) -> T {
+        items[self.below(items.len() as i64) as usize]
+    }
+    fn pair(&mut self, nodes: i64) -> Pair {
+        [self.range(1, nodes), self.range(1, nodes)]
     }
     fn shuffle<T>(&mut self, items: &mut [T]) {
         for i in (1..items.len()).rev() {
-            items.swap(i, self.below(i as u64 + 1) as usize);
+            items.swap(i, self.below(i as i64 + 1) as usize);
         }
+    }
+    fn shuffled<T>(&mut self, mut items: Vec<T>) -> Vec<T> {
+        self.shuffle(&mut items);
+        items
     }
 }
 
 /// Standard output, line by line.
 struct Text {
     to: BufWriter<io::StdoutLock<'static>>,
-    line: Vec<u8>,
     random: Random,
     noise: bool,
     odd: bool,
 }
 impl Text {
-    fn raw(&mut self, bytes: &[u8]) {
-        self.to.write_all(bytes).unwrap();
+    fn raw(&mut self, text: &str) {
+        self.to.write_all(text.as_bytes()).unwrap();
     }
     fn comment(&mut self, text: &str) {
-        self.raw(b"c ");
-        self.raw(text.as_bytes());
-        self.raw(if self.noise { b"\r\n" } else { b"\n" });
+        self.raw("c ");
+        self.raw(text);
+        self.raw(if self.noise { "\r\n" } else { "\n" });
+    }
+    /// Writes this text once in `n` calls, if the text is to be noisy.
+    fn noise(&mut self, n: i64, text: &str) {
+        if self.noise && self.random.one_in(n) {
+            self.raw(text);
+        }
     }
     fn blank(&mut self) {
-        if self.noise && self.random.one_in(4) {
-            let runs: [&[u8]; 4] = [b"\t", b"  ", b" \t ", b"      "];
-            let run = runs[self.random.below(4) as usize];
-            self.line.extend_from_slice(run);
-        } else {
-            self.line.push(b' ');
-        }
+        let is_run = self.noise && self.random.one_in(4);
+        let blank = if is_run { self.random.one_of(&["\t", "  ", " \t ", "      "]) } else { " " };
+        self.raw(blank);
     }
     fn number(&mut self, n: i64) {
         if self.odd && self.random.one_in(8) {
-            let zeros = self.random.below(4) as usize;
-            self.line.push(if n < 0 { b'-' } else { b'+' });
-            self.line.extend(std::iter::repeat(b'0').take(zeros));
-            write!(self.line, "{}", n.unsigned_abs()).unwrap();
+            let zeros = self.random.one_of(&["", "0", "00", "000"]);
+            self.raw(if n < 0 { "-" } else { "+" });
+            write!(self.to, "{zeros}{}", n.unsigned_abs()).unwrap();
         } else {
-            write!(self.line, "{n}").unwrap();
+            write!(self.to, "{n}").unwrap();
         }
     }
     fn row(&mut self, head: &str, fields: &[i64], tail: &str) {
-        self.line.clear();
-        if self.noise {
-            if self.random.one_in(50) {
-                self.comment("noise: a b c 1 2 3");
-            }
-            if self.random.one_in(200) {
-                self.raw(b" \t\r\n\n");
-            }
-            if self.random.one_in(20) {
-                self.line.extend_from_slice(b"  ");
-            }
-        }
-        self.line.extend_from_slice(head.as_bytes());
+        self.noise(50, "c noise: a b c 1 2 3\r\n");
+        self.noise(200, " \t\r\n\n");
+        self.noise(20, "  ");
+        self.raw(head);
         for &n in fields {
             self.blank();
             self.number(n);
         }
         if !tail.is_empty() {
             self.blank();
-            self.line.extend_from_slice(tail.as_bytes());
+            self.raw(tail);
         }
-        if self.noise && self.random.one_in(10) {
-            self.line.extend_from_slice(b" \r");
-        }
-        self.line.push(b'\n');
-        self.to.write_all(&self.line).unwrap();
+        self.noise(10, " \r");
+        self.raw("\n");
     }
-    fn rows<const N: usize>(&mut self, head: &str, rows: &[[i64; N]]) {
-        rows.iter().for_each(|row| self.row(head, row, ""));
+    fn rows(&mut self, head: &str, rows: &[impl AsRef<[i64]>]) {
+        rows.iter().for_each(|row| self.row(head, row.as_ref(), ""));
     }
     /// Writes a graph, whose first and last nodes are the source and the sink in `max`.
-    fn graph<const N: usize>(&mut self, kind: &str, nodes: i64, supplies: &[[i64; 2]], arcs: &[[i64; N]]) {
+    fn graph(&mut self, kind: &str, nodes: i64, supplies: &[Pair], arcs: &[impl AsRef<[i64]>]) {
         self.row(&format!("p {kind}"), &[nodes, arcs.len() as i64], "");
         if kind == "max" {
             self.row("n", &[1], "s");
@@ -159,76 +157,64 @@ impl Text {
         self.rows("n", supplies);
         self.rows("a", arcs);
     }
-    fn companion<const N: usize>(&mut self, about: &str, kind: &str, letter: &str, items: &[[i64; N]]) {
+    fn companion(&mut self, about: &str, kind: &str, letter: &str, items: &[impl AsRef<[i64]>]) {
         self.comment(about);
         self.row(&format!("p aux sp {kind}"), &[items.len() as i64], "");
         self.rows(letter, items);
     }
 }
 
+/// Two nodes.
+type Pair = [i64; 2];
 /// An arc of `sp` or `max`, or an undirected road: two nodes and a number.
 type Arc = [i64; 3];
 
 /// Returns the edges (u < v) of a sparse grid with about `arcs / 2` edges, and the number of nodes.
-fn road_edges(arcs: u64, random: &mut Random) -> (i64, Vec<Arc>) {
+fn road_edges(arcs: i64, random: &mut Random) -> (i64, Vec<Arc>) {
     // The largest road files have about 2.44 arcs per node, so each of the two grid edges of a node
     // is kept with probability 0.61. A few long edges represent bridges and motorways.
-    let n = ((arcs as f64 / 2.44) as u64).max(2);
-    let width = ((n as f64).sqrt() as u64).max(1);
-    let mut edges = Vec::with_capacity(arcs as usize / 2 + 16);
-    for u in 0..n {
+    let n = ((arcs as f64 / 2.44) as i64).max(2);
+    let width = ((n as f64).sqrt() as i64).max(1);
+    let mut edges = Vec::new();
+    for u in 1..=n {
         for v in [u + 1, u + width] {
-            if v < n && random.below(100) < 61 {
-                edges.push([u as i64 + 1, v as i64 + 1, road_length(random)]);
+            if v <= n && random.below(100) < 61 {
+                edges.push([u, v, road_length(random)]);
             }
         }
         if random.one_in(500) {
-            let v = random.below(n);
-            if v != u && v != u + 1 && v != u + width && u != v + 1 && u != v + width {
-                let length = 9 * road_length(random);
-                edges.push([u.min(v) as i64 + 1, u.max(v) as i64 + 1, length]);
+            let v = random.range(1, n);
+            if ![0, 1, width].contains(&(u - v).abs()) {
+                edges.push([u.min(v), u.max(v), 9 * road_length(random)]);
             }
         }
     }
     edges.sort_unstable();
     edges.dedup_by_key(|edge| (edge[0], edge[1]));
-    (n as i64, edges)
+    (n, edges)
 }
 fn road_length(random: &mut Random) -> i64 {
-    let length = random.range(1, 2500);
-    if random.one_in(6) {
-        length * 11
-    } else {
-        length
-    }
+    random.range(1, 2500) * if random.one_in(6) { 11 } else { 1 }
 }
 
-/// Returns each edge and its reverse, edge by edge.
-fn both_ways(edges: &[Arc]) -> Vec<Arc> {
-    edges.iter().flat_map(|&[u, v, w]| [[u, v, w], [v, u, w]]).collect()
-}
-
-fn road(text: &mut Text, random: &mut Random, n: u64, order: &str) {
+fn road(text: &mut Text, random: &mut Random, n: i64, order: &str) {
     let (nodes, mut edges) = road_edges(if order == "twice" { n / 2 } else { n }, random);
     if order == "pairs" {
         // blocks of edges out of order, as files gathered county by county have them
-        let mut blocks: Vec<&mut [Arc]> = edges.chunks_mut(400).collect();
-        random.shuffle(&mut blocks);
+        let mut blocks = random.shuffled(edges.chunks(400).map(|block| block.to_vec()).collect());
         blocks.iter_mut().for_each(|block| random.shuffle(block));
         edges = blocks.concat();
     }
-    let mut arcs = both_ways(&edges);
-    match order {
-        "pairs" => {}
-        "shuffled" => random.shuffle(&mut arcs),
-        _ => arcs.sort_unstable(),
+    let mut arcs: Vec<Arc> = edges.iter().flat_map(|&[u, v, w]| [[u, v, w], [v, u, w]]).collect();
+    if !["pairs", "shuffled"].contains(&order) {
+        arcs.sort_unstable();
     }
     match order {
+        "shuffled" => random.shuffle(&mut arcs),
         "descending" => arcs.reverse(),
         "twice" => {
-            let mut again: Vec<Arc> = arcs.iter().map(|&[u, v, _]| [u, v, road_length(random)]).collect();
-            random.shuffle(&mut again);
-            arcs.extend(again);
+            let again = arcs.iter().map(|&[u, v, _]| [u, v, road_length(random)]).collect();
+            arcs.extend(random.shuffled(again));
         }
         _ => {}
     }
@@ -240,11 +226,11 @@ fn road(text: &mut Text, random: &mut Random, n: u64, order: &str) {
     text.rows("a", &arcs);
 }
 
-fn multi(text: &mut Text, random: &mut Random, n: u64) {
-    let nodes = (n / 40).max(1) as i64;
-    let mut arcs = Vec::with_capacity(n as usize);
+fn multi(text: &mut Text, random: &mut Random, n: i64) {
+    let nodes = (n / 40).max(1);
+    let mut arcs = Vec::new();
     for _ in 0..(n / 10).max(1) {
-        let (u, v) = (random.range(1, nodes), random.range(1, nodes));
+        let [u, v] = random.pair(nodes);
         arcs.extend((0..10).map(|_| [u, v, random.range(-50, 1_000_000)]));
     }
     random.shuffle(&mut arcs);
@@ -252,27 +238,28 @@ fn multi(text: &mut Text, random: &mut Random, n: u64) {
     text.graph("sp", nodes, &[], &arcs);
 }
 
-fn max(text: &mut Text, random: &mut Random, n: u64) {
+fn max(text: &mut Text, random: &mut Random, n: i64) {
     // b frames of a*a nodes; per node about 4 arcs within the frame and 1 between frames
     let (least, most) = (1, 1000);
     let per = (n as f64 / 5.0).max(8.0);
     let a = (per.cbrt() as i64).max(2);
-    let b = ((per / (a * a) as f64).ceil() as i64).max(2);
-    let id = |frame: i64, y: i64, x: i64| frame * a * a + y * a + x + 1;
-    let inside = most * a * a;
-    let mut arcs = Vec::with_capacity(n as usize);
-    let mut to: Vec<i64> = (0..a * a).collect();
-    for frame in 0..b {
-        for (y, x) in (0..a).flat_map(|y| (0..a).map(move |x| (y, x))) {
-            let beside = [(x + 1 < a, id(frame, y, x + 1)), (y + 1 < a, id(frame, y + 1, x))];
-            for (_, v) in beside.into_iter().filter(|it| it.0) {
-                arcs.extend(both_ways(&[[id(frame, y, x), v, inside]]));
+    let size = a * a;
+    let b = ((per / size as f64).ceil() as i64).max(2);
+    let mut arcs = Vec::new();
+    let mut to: Vec<i64> = (0..size).collect();
+    for first in (0..b).map(|frame| frame * size + 1) {
+        for at in 0..size {
+            let u = first + at;
+            for (has_next, v) in [(at % a + 1 < a, u + 1), (at / a + 1 < a, u + a)] {
+                if has_next {
+                    arcs.extend([[u, v, most * size], [v, u, most * size]]);
+                }
             }
         }
-        if frame + 1 < b {
+        if first + size <= b * size {
             random.shuffle(&mut to);
-            for (u, &v) in (0..).zip(&to) {
-                let (u, v) = (id(frame, 0, u), id(frame + 1, 0, v));
+            for (u, at) in (first..).zip(&to) {
+                let v = first + size + at;
                 arcs.push([u, v, random.range(least, most)]);
                 if random.one_in(20) {
                     arcs.push([u, v, random.range(0, most)]);
@@ -282,17 +269,17 @@ fn max(text: &mut Text, random: &mut Random, n: u64) {
     }
     random.shuffle(&mut arcs);
     text.comment(&format!("generated: rmf-like, a {a} b {b} c1 {least} c2 {most}"));
-    text.graph("max", a * a * b, &[], &arcs);
+    text.graph("max", size * b, &[], &arcs);
 }
 
 /// Paths from sources to sinks carry a flow within LOW and CAP. The supplies follow from it, so the
 /// text is feasible. The other arcs are random, 1 in 3 parallel to an earlier one.
-fn min(text: &mut Text, random: &mut Random, n: u64) {
-    let nodes = (n / 8).max(4) as i64;
+fn min(text: &mut Text, random: &mut Random, n: i64) {
+    let nodes = (n / 8).max(4);
     let some = (nodes / 10).max(1);
-    let mut supply = vec![0i64; nodes as usize + 1];
-    let mut arcs: Vec<[i64; 5]> = Vec::with_capacity(n as usize + 16);
-    while (arcs.len() as u64) < n * 6 / 10 {
+    let mut supply = vec![0; nodes as usize + 1];
+    let mut arcs = Vec::new();
+    while (arcs.len() as i64) < n * 6 / 10 {
         let mut at = random.range(1, some);
         let end = nodes + 1 - random.range(1, some);
         let flow = random.range(1, 100);
@@ -311,12 +298,12 @@ fn min(text: &mut Text, random: &mut Random, n: u64) {
             at = next;
         }
     }
-    while (arcs.len() as u64) < n {
-        let (u, v) = if random.one_in(3) {
-            let old = arcs[random.below(arcs.len() as u64) as usize];
-            (old[0], old[1])
+    while (arcs.len() as i64) < n {
+        let [u, v] = if random.one_in(3) {
+            let [u, v, ..] = random.one_of(&arcs);
+            [u, v]
         } else {
-            (random.range(1, nodes), random.range(1, nodes))
+            random.pair(nodes)
         };
         arcs.push([u, v, 0, random.range(0, 500), cost(random)]);
     }
@@ -333,31 +320,28 @@ fn cost(random: &mut Random) -> i64 {
 }
 
 /// Returns the nodes whose supply, by their IDs, is not 0.
-fn supplies(supply: &[i64]) -> Vec<[i64; 2]> {
+fn supplies(supply: &[i64]) -> Vec<Pair> {
     (0..).zip(supply).map(|(id, &flow)| [id, flow]).filter(|it| it[1] != 0).collect()
 }
 
 /// A chain of arcs carries the flow of each source to a sink, and random arcs leave each node of
 /// the chain. As in netgen's output, tails rise within a chain, and heads come in random order.
-fn netgen(text: &mut Text, random: &mut Random, n: u64) {
-    let nodes = (n / 8).max(4) as i64;
+fn netgen(text: &mut Text, random: &mut Random, n: i64) {
+    let nodes = (n / 8).max(4);
     let ends = (nodes / 1000).max(1);
     let mut chains: Vec<Vec<i64>> = (1..=ends).map(|source| vec![source]).collect();
     for node in ends + 1..=nodes - ends {
-        chains[random.below(ends as u64) as usize].push(node);
+        chains[random.below(ends) as usize].push(node);
     }
-    let mut supply = vec![0i64; nodes as usize + 1];
-    let mut next = vec![0i64; nodes as usize + 1];
-    let mut arcs: Vec<[i64; 5]> = Vec::with_capacity(n as usize + n as usize / 40 + 16);
+    let mut supply = vec![0; nodes as usize + 1];
+    let mut next = supply.clone();
+    let mut arcs = Vec::new();
     for (chain, sink) in chains.iter().zip(nodes + 1 - ends..) {
         let flow = random.range(1, 1000);
         supply[chain[0] as usize] = flow;
         supply[sink as usize] = -flow;
-        let mut order = chain[1..].to_vec();
-        random.shuffle(&mut order);
-        order.push(sink);
         let mut at = chain[0];
-        for node in order {
+        for node in random.shuffled(chain[1..].to_vec()).into_iter().chain([sink]) {
             next[at as usize] = node;
             at = node;
         }
@@ -376,40 +360,22 @@ fn netgen(text: &mut Text, random: &mut Random, n: u64) {
     text.graph("min", nodes, &supplies(&supply), &arcs);
 }
 
-fn points(text: &mut Text, random: &mut Random, ids: &[i64]) {
-    let mut point = |&id| [id, random.range(-124_000_000, -67_000_000), random.range(25_000_000, 49_000_000)];
-    let items: Vec<[i64; 3]> = ids.iter().map(&mut point).collect();
+fn points(text: &mut Text, random: &mut Random, ids: Vec<i64>) {
+    let mut point = |id| [id, random.range(-124_000_000, -67_000_000), random.range(25_000_000, 49_000_000)];
+    let items: Vec<Arc> = ids.into_iter().map(&mut point).collect();
     text.companion("generated: coordinates", "co", "v", &items);
 }
 
-fn queries(text: &mut Text, random: &mut Random, n: u64, kind: &str) {
-    let nodes = (n / 3).max(1) as i64;
-    let pairs: Vec<[i64; 2]> = (0..n / 4).map(|_| [random.range(1, nodes), random.range(1, nodes)]).collect();
-    let sources: Vec<[i64; 1]> = pairs.iter().map(|pair| [pair[0]]).collect();
-    match kind {
-        "ss" => text.companion("generated: queries", kind, "s", &sources),
-        _ => text.companion("generated: queries", kind, "q", &pairs),
-    }
+fn queries(text: &mut Text, random: &mut Random, n: i64, kind: &str) {
+    let pairs = random_pairs(random, n / 4, (n / 3).max(1), |i| i);
+    let (letter, count) = if kind == "ss" { ("s", 1) } else { ("q", 2) };
+    let items: Vec<&[i64]> = pairs.iter().map(|pair| &pair[..count]).collect();
+    text.companion("generated: queries", kind, letter, &items);
 }
-
-type Pair = (i64, i64);
 
 /// Returns random pairs of the nodes that `node` makes of the numbers 1 to `count`.
-fn random_pairs(random: &mut Random, n: u64, count: i64, node: impl Fn(i64) -> i64) -> Vec<Pair> {
-    let mut one = || node(random.range(1, count));
-    (0..n).map(|_| (one(), one())).collect()
-}
-
-fn alternating(n: i64) -> impl Iterator<Item = Pair> {
-    let tail = move |i: i64| if i % 2 == 0 { 1 + i / 2 } else { n - i / 2 };
-    (0..n).map(move |i| (tail(i), tail(n - 1 - i)))
-}
-
-/// Returns pairs with the same head + 4 * tail, in random order.
-fn one_sum(random: &mut Random, n: i64) -> Vec<Pair> {
-    let mut pairs: Vec<Pair> = (1..=n).map(|tail| (tail, 4 * (n - tail) + 1)).collect();
-    random.shuffle(&mut pairs);
-    pairs
+fn random_pairs(random: &mut Random, n: i64, count: i64, node: impl Fn(i64) -> i64) -> Vec<Pair> {
+    (0..n).map(|_| random.pair(count).map(&node)).collect()
 }
 
 // The factors by which the index (crates/pair_index/src/bucket.rt) mixes a tail, a head, and both:
@@ -429,7 +395,7 @@ fn inverse(odd: u64) -> u64 {
 
 /// Returns different pairs that agree in 4 * tail + head modulo 2^40 and in the upper 32 bits of
 /// `mixed`, so that the index puts them into one bucket, for any number of buckets up to 2^32.
-fn colliding(random: &mut Random, n: u64) -> Vec<Pair> {
+fn colliding(random: &mut Random, n: i64) -> Vec<Pair> {
     const HALF: u64 = (1 << 32) - 1;
     const SUM: u64 = 12_345;
     const UPPER: u64 = 0x2545_F491;
@@ -437,52 +403,43 @@ fn colliding(random: &mut Random, n: u64) -> Vec<Pair> {
     // With src = tail * TAIL and dst = head * HEAD, the sum says, modulo 2^40:
     //   4 * src + ratio * dst = sum
     let (sum, ratio) = (SUM.wrapping_mul(TAIL), TAIL.wrapping_mul(head_back));
-    let mut pairs = Vec::with_capacity(n as usize);
-    for lower in 0..n {
+    let mut pairs = Vec::new();
+    while (pairs.len() as i64) < n {
         // The lower half of `mixed` is the number of the pair.
-        let folded = (UPPER << 32 | lower).wrapping_mul(both_back);
+        let folded = (UPPER << 32 | pairs.len() as u64).wrapping_mul(both_back);
         let both = folded ^ folded >> 32;
         // For a lower half of dst, the sum modulo 2^32 gives 30 bits of the lower half of src, and
         // these give the upper half of dst. The four possible values of the other bits are tried.
-        let found = 'search: loop {
-            let dst_low = random.next() & HALF;
-            let src_four = sum.wrapping_sub(ratio.wrapping_mul(dst_low)) & HALF;
-            if src_four & 3 != 0 {
-                continue;
-            }
-            for top in 0..4 {
-                let src_low = src_four >> 2 | top << 30;
-                let dst = ((both ^ src_low) & HALF) << 32 | dst_low;
-                let tail = (both ^ dst.rotate_left(32)).wrapping_mul(tail_back) as i64;
-                let head = dst.wrapping_mul(head_back) as i64;
-                let off = (4u64.wrapping_mul(tail as u64)).wrapping_add(head as u64).wrapping_sub(SUM);
-                if off << 24 == 0 && tail > 0 && head > 0 {
-                    break 'search (tail, head);
-                }
-            }
-        };
-        pairs.push(found);
+        let dst_low = random.next() & HALF;
+        let src_four = sum.wrapping_sub(ratio.wrapping_mul(dst_low)) & HALF;
+        let mut tried = (0..if src_four & 3 == 0 { 4 } else { 0 }).map(|top| {
+            let src_low = src_four >> 2 | top << 30;
+            let dst = ((both ^ src_low) & HALF) << 32 | dst_low;
+            let tail = (both ^ dst.rotate_left(32)).wrapping_mul(tail_back);
+            [tail as i64, dst.wrapping_mul(head_back) as i64]
+        });
+        pairs.extend(tried.find(|&[tail, head]| {
+            let off = 4i64.wrapping_mul(tail).wrapping_add(head).wrapping_sub(SUM as i64);
+            off << 24 == 0 && tail > 0 && head > 0
+        }));
     }
     pairs
 }
 
 /// Returns each pair followed by its reverse.
 fn reversed_too(pairs: &[Pair]) -> Vec<Pair> {
-    pairs.iter().flat_map(|&(u, v)| [(u, v), (v, u)]).collect()
+    pairs.iter().flat_map(|&[u, v]| [[u, v], [v, u]]).collect()
 }
 
 /// Returns the pairs of a graph that grows: each new node is joined to three older ones, most often
 /// to nodes that many others are joined to already.
-fn hubs(random: &mut Random, n: u64, kind: &str) -> Vec<Pair> {
-    let nodes = (n / 6).max(2) as i64;
-    let mut ends = vec![1];
-    let mut edges = Vec::new();
-    for v in 2..=nodes {
+fn hubs(random: &mut Random, n: i64, kind: &str) -> Vec<Pair> {
+    let (mut ends, mut edges) = (vec![1], Vec::new());
+    for v in 2..=(n / 6).max(2) {
         for _ in 0..3 {
-            let u =
-                if random.one_in(10) { random.range(1, v - 1) } else { ends[random.below(ends.len() as u64) as usize] };
+            let u = if random.one_in(10) { random.range(1, v - 1) } else { random.one_of(&ends) };
             if u != v {
-                edges.push((u, v));
+                edges.push([u, v]);
                 ends.extend([u, v]);
             }
         }
@@ -492,77 +449,71 @@ fn hubs(random: &mut Random, n: u64, kind: &str) -> Vec<Pair> {
         random.shuffle(&mut pairs);
     }
     if kind == "hubs" {
-        pairs.sort_by_key(|pair| pair.0);
+        pairs.sort_by_key(|pair| pair[0]);
     }
     pairs
 }
 
 /// Returns the pairs of a ring in which each node is joined to the nearest `degree` nodes, in
 /// blocks of 64.
-fn ring(random: &mut Random, n: u64, degree: i64) -> Vec<Pair> {
-    let nodes = (n as i64 / degree).max(degree + 1);
+fn ring(random: &mut Random, n: i64, degree: i64) -> Vec<Pair> {
+    let nodes = (n / degree).max(degree + 1);
     let edges: Vec<Pair> =
-        (1..=nodes).flat_map(|u| (1..=degree / 2).map(move |k| (u, (u + k - 1) % nodes + 1))).collect();
-    let mut blocks: Vec<&[Pair]> = edges.chunks(64).collect();
-    random.shuffle(&mut blocks);
-    reversed_too(&blocks.concat())
+        (1..=nodes).flat_map(|u| (1..=degree / 2).map(move |k| [u, (u + k - 1) % nodes + 1])).collect();
+    reversed_too(&random.shuffled(edges.chunks(64).collect()).concat())
 }
 
 /// Writes arcs of pairs that are chosen, with random lengths.
-fn sp(text: &mut Text, random: &mut Random, kind: &str, n: u64) {
-    let count = n.max(1) as i64;
+fn sp(text: &mut Text, random: &mut Random, kind: &str, n: i64) {
+    let count = n.max(1);
     let pairs = match kind {
         "hubs" | "hubs-shuffled" | "hubs-pairs" => hubs(random, n, kind),
-        "sp-falling" => (0..count).rev().map(|i| (1 + i / 4, 1 + i % 4)).collect(),
-        "sp-alternating" => alternating(count).collect(),
-        "sp-onepair" => vec![(1, 2); n as usize],
-        "sp-star" => {
-            let mut pairs: Vec<Pair> = (1..=count).map(|head| (1, head)).collect();
-            random.shuffle(&mut pairs);
-            pairs
+        "sp-falling" => (0..count).rev().map(|i| [1 + i / 4, 1 + i % 4]).collect(),
+        "sp-alternating" => {
+            let tail = |i| if i % 2 == 0 { 1 + i / 2 } else { count - i / 2 };
+            (0..count).map(|i| [tail(i), tail(count - 1 - i)]).collect()
         }
+        "sp-onepair" => vec![[1, 2]; n as usize],
+        "sp-star" => random.shuffled((1..=count).map(|head| [1, head]).collect()),
         "sp-ring4" => ring(random, n, 4),
         "sp-ring10" => ring(random, n, 10),
         "sp-ring16" => ring(random, n, 16),
         "sp-again" => {
             let first = ring(random, n / 2, 10);
-            let mut second = first.clone();
-            random.shuffle(&mut second);
-            [first, second].concat()
+            [first.clone(), random.shuffled(first)].concat()
         }
         "sp-dense" => {
             let side = (1..).take_while(|it| it * it <= n).count() as i64;
-            let column = |head| (1..=side).map(move |tail| (tail, head));
-            (1..=side).flat_map(column).collect()
+            (1..=side).flat_map(|head| (1..=side).map(move |tail| [tail, head])).collect()
         }
         "sp-multiples" => random_pairs(random, n, count, |i| i * 1024),
         "sp-far" => random_pairs(random, n, count, |i| (1 << 40) + i),
         "sp-far-multiples" => random_pairs(random, n, count.min(1 << 22), |i| i << 40),
         "sp-sparse" => random_pairs(random, n, i64::MAX - 1, |i| i),
-        "sp-collide-first" => one_sum(random, count),
+        // pairs with the same head + 4 * tail
+        "sp-collide-first" => random.shuffled((1..=count).map(|tail| [tail, 4 * (count - tail) + 1]).collect()),
         "sp-collide" => colliding(random, n),
         "sp-collide-late" => {
             let pairs = random_pairs(random, n - n / 2, count, |i| i);
             [pairs, colliding(random, n / 2)].concat()
         }
-        _ => unknown(kind),
+        _ => {
+            eprintln!("generate: unknown kind {kind}");
+            std::process::exit(3)
+        }
     };
     let nodes = match kind {
         "sp-sparse" | "sp-collide" | "sp-collide-late" => i64::MAX,
-        _ => pairs.iter().map(|pair| pair.0.max(pair.1)).max().unwrap_or(1),
+        _ => pairs.iter().flatten().copied().max().unwrap_or(1),
     };
-    let arcs: Vec<Arc> = pairs.iter().map(|&(tail, head)| [tail, head, random.range(0, 999_999)]).collect();
+    let arcs: Vec<Arc> = pairs.iter().map(|&[tail, head]| [tail, head, random.range(0, 999_999)]).collect();
     text.graph("sp", nodes, &[], &arcs);
 }
 
-/// Writes arcs of one pair.
-fn one_pair(text: &mut Text, random: &mut Random, kind: &str, n: u64) {
-    let mut costs: Vec<i64> = (0..n as i64).map(|i| i * 7 - 1_000_000).collect();
+/// Writes arcs of `min` of one pair.
+fn one_pair(text: &mut Text, random: &mut Random, kind: &str, n: i64) {
+    let mut costs: Vec<i64> = (0..n).map(|i| i * 7 - 1_000_000).collect();
     match kind {
-        "max-onepair" => {
-            let arcs: Vec<Arc> = (0..n).map(|_| [1, 2, random.range(0, 1000)]).collect();
-            return text.graph("max", 2, &[], &arcs);
-        }
         "min-onepair" => random.shuffle(&mut costs),
         "min-falling" => costs.reverse(),
         _ => costs.fill(7),
@@ -578,26 +529,18 @@ fn one_pair(text: &mut Text, random: &mut Random, kind: &str, n: u64) {
 /// Writes a text of ten arcs in which something else is long.
 fn few_arcs(text: &mut Text, kind: &str, n: usize) {
     text.row("p sp", &[10, 10], "");
-    let filling = match kind {
-        "long-blanks" => " ".repeat(n),
-        "long-number" => "0".repeat(n),
-        _ => String::new(),
-    };
+    let mut filling = String::new();
     match kind {
         "comments" => (0..n).for_each(|i| text.comment(&format!("line {i}"))),
-        "empty-lines" => text.raw(&vec![b'\n'; n]),
+        "empty-lines" => text.raw(&"\n".repeat(n)),
         "long-comment" => text.comment(&"x".repeat(n)),
-        _ => {}
+        "long-blanks" => filling = " ".repeat(n),
+        _ => filling = "0".repeat(n),
     }
-    text.raw(format!("a 10 1 {filling}10\n").as_bytes());
+    text.raw(&format!("a 10 1 {filling}10\n"));
     for u in (1..10).rev() {
         text.row("a", &[u, 11 - u, u], "");
     }
-}
-
-fn unknown(kind: &str) -> ! {
-    eprintln!("generate: unknown kind {kind}");
-    std::process::exit(3)
 }
 
 fn main() {
@@ -606,17 +549,16 @@ fn main() {
         eprintln!("usage: generate KIND N [SEED] [--noise] [--odd]");
         std::process::exit(3);
     }
-    let n: u64 = words[1].parse().expect("N");
+    let n = words[1].parse::<u64>().expect("N") as i64;
     let seed: u64 = words.get(2).map_or(1, |word| word.parse().expect("SEED"));
     let random = &mut Random(seed.wrapping_mul(0xA0761D6478BD642F) ^ 0x51ED270B);
+    let has = |flag: &str| flags.iter().any(|it| it == flag);
     let text = &mut Text {
         to: BufWriter::with_capacity(1 << 16, io::stdout().lock()),
-        line: Vec::new(),
         random: Random(seed ^ 0xC0FFEE),
-        noise: flags.iter().any(|flag| flag == "--noise"),
-        odd: flags.iter().any(|flag| flag == "--odd"),
+        noise: has("--noise"),
+        odd: has("--odd"),
     };
-    let mut ids: Vec<i64> = (1..=n as i64 / 4).collect();
     match words[0].as_str() {
         "road" => road(text, random, n, "rising"),
         kind @ ("road-pairs" | "road-shuffled" | "road-descending" | "road-twice") => road(text, random, n, &kind[5..]),
@@ -624,18 +566,22 @@ fn main() {
         "max" => max(text, random, n),
         "min" => min(text, random, n),
         "min-netgen" => netgen(text, random, n),
-        "co" => points(text, random, &ids),
+        "co" => points(text, random, (1..=n / 4).collect()),
         "co-shuffled" => {
-            random.shuffle(&mut ids);
-            points(text, random, &ids);
+            let ids = random.shuffled((1..=n / 4).collect());
+            points(text, random, ids);
         }
-        "co-falling" => points(text, random, &(1..=n as i64).rev().collect::<Vec<i64>>()),
+        "co-falling" => points(text, random, (1..=n).rev().collect()),
         kind @ ("ss" | "p2p") => queries(text, random, n, kind),
         "min-nodes-falling" => {
-            let falling: Vec<[i64; 2]> = (1..=n as i64).rev().map(|id| [id, id % 4]).collect();
-            text.graph("min", n.max(2) as i64, &falling, &[[1, 2, 0, 1, 1]]);
+            let falling: Vec<Pair> = (1..=n).rev().map(|id| [id, id % 4]).collect();
+            text.graph("min", n.max(2), &falling, &[[1, 2, 0, 1, 1]]);
         }
-        kind @ ("max-onepair" | "min-onepair" | "min-falling" | "min-one-cost") => one_pair(text, random, kind, n),
+        "max-onepair" => {
+            let arcs: Vec<Arc> = (0..n).map(|_| [1, 2, random.range(0, 1000)]).collect();
+            text.graph("max", 2, &[], &arcs);
+        }
+        kind @ ("min-onepair" | "min-falling" | "min-one-cost") => one_pair(text, random, kind, n),
         kind @ ("comments" | "empty-lines" | "long-comment" | "long-blanks" | "long-number") => {
             few_arcs(text, kind, n as usize)
         }
