@@ -8,6 +8,7 @@ import sys
 from collections import Counter
 from collections.abc import Iterator
 from typing import TextIO
+from unittest import mock
 
 import pytest
 from needs import leave_out, need
@@ -119,11 +120,8 @@ def reader(
         leave_out("numpy")
     if how != "numpy":
         monkeypatch.setitem(vars(sys)["modules"], "numpy", None)
-    kept = dict(os.environ)
-    os.environ["DNORM_LIBRARY"] = f"{c_library}/lib/libdnorm.so.3"
-    yield how
-    os.environ.clear()
-    os.environ.update(kept)
+    with mock.patch.dict(os.environ, {"DNORM_LIBRARY": f"{c_library}/lib/libdnorm.so.3"}):
+        yield how
 
 
 @pytest.fixture(scope="session")

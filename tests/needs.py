@@ -1,8 +1,10 @@
-"""Random cases, and what a test needs and the machine may lack. A test without it is skipped, with the reason.
-With CI=true, which says that tools/setup has installed everything, a missing tool is a failure."""
+"""Random cases, tests that other tests run, and what a test needs and the machine may lack. A test without it is
+skipped, with the reason. With CI=true, which says that tools/setup has installed everything, a missing tool is a
+failure."""
 
 import os
 import shutil
+import sys
 from collections.abc import Callable
 from random import Random
 from typing import Any, NoReturn
@@ -10,6 +12,7 @@ from typing import Any, NoReturn
 import hypothesis
 import pytest
 from hypothesis import strategies
+from shared import ROOT, Words, run
 
 
 def seeds(count: int, quick: int) -> list[Any]:
@@ -49,6 +52,15 @@ def need_proc() -> None:
     """Passes over the test if the system has no /proc, which it needs by itself or by bash's <(..)."""
     if not os.path.exists("/proc/self/fd"):
         pass_over("/proc")
+
+
+def passes(program: str, path: str, *words: str, python: Words = (), limit: int | None = None, **own: str) -> None:
+    """Runs the tests in a file or a folder of tests/ on a program, with these words and variables, without those that
+    measure times."""
+    line = [*(python or [sys.executable]), "-m", "pytest", "-q", "-m", "not alone", "-pno:cacheprovider", "-pno:xdist"]
+    line += [f"--rootdir={path.rpartition('/tests/')[0]}", path, f"--program={program}", *words]
+    ran = run(line, limit=limit, env={**os.environ, **own}, cwd=ROOT)
+    assert ran.status == 0, ran.out.decode()
 
 
 def terminal() -> tuple[int, int]:

@@ -11,7 +11,7 @@ import struct
 import subprocess
 import sys
 import tempfile
-from collections.abc import Callable, Iterator, Sequence
+from collections.abc import Callable, Iterator, Mapping, Sequence
 from typing import IO, Any, NamedTuple
 
 if sys.version_info < (3, 10):
@@ -166,8 +166,7 @@ def clone_of(what: str, tested: str) -> None:
     """Makes one of these clones in a folder clone/."""
     os.makedirs("clone/tools")
     for path, does in zip(["clone/dnorm", "clone/tools/program"], CLONES[what]):
-        write(path, f"#!/bin/sh\nP={shlex.quote(tested)}\n{does}\n")
-        os.chmod(path, 0o755)
+        write(path, f"#!/bin/sh\nP={shlex.quote(tested)}\n{does}\n", 0o755)
 
 
 class Quick:
@@ -207,10 +206,38 @@ def bytes_of(path: str) -> bytes:
         return file.read()
 
 
-def write(path: str | bytes, text: str | bytes) -> None:
-    """Makes a file."""
+def write(path: str | bytes, text: str | bytes, mode: int | None = None) -> None:
+    """Makes a file, and gives it a mode."""
     with open(path, "wb") as file:
         file.write(text if isinstance(text, bytes) else text.encode())
+    if mode is not None:
+        os.chmod(path, mode)
+
+
+def make(texts: Mapping[str, str | bytes], mode: int | None = None) -> None:
+    """Makes files with these names and texts, and their folders."""
+    for name, text in texts.items():
+        os.makedirs(os.path.dirname(name) or ".", exist_ok=True)
+        write(name, text, mode)
+
+
+# What git takes from the environment in a scratch repository, and nothing from this machine.
+OF_GIT = {f"GIT_{one}_{it}": "a@example.org" for one in ["AUTHOR", "COMMITTER"] for it in ["NAME", "EMAIL"]}
+OF_GIT |= {"GIT_CONFIG_GLOBAL": "/dev/null", "GIT_CONFIG_NOSYSTEM": "1"}
+# Runs `main` of a module with these arguments. A signal comes while the main thread waits for a thread that starts, and
+# has let the lock go.
+IN_A_WAIT = """
+import signal, sys, threading
+from {} import main
+waited = threading.Condition.wait
+def wait(self, timeout=None):
+    if threading.current_thread() is threading.main_thread():
+        self._release_save()
+        signal.raise_signal(signal.SIGTERM)
+    return waited(self, timeout)
+threading.Condition.wait = wait
+sys.exit(main(sys.argv[1:]))
+"""
 
 
 def python_with(*modules: str) -> str | None:

@@ -142,8 +142,7 @@ class Conformance:
     def reader(self, script: str) -> str:
         """Returns the path of a reader in sh."""
         path = f"{self.folder}/reader.sh"
-        write(path, f"#!/bin/sh\nP={shlex.quote(self.tested)}\n{script}\n")
-        os.chmod(path, 0o755)
+        write(path, f"#!/bin/sh\nP={shlex.quote(self.tested)}\n{script}\n", 0o755)
         return path
 
 

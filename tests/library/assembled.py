@@ -4,7 +4,9 @@ numbers, and returns a number. Loads and stores go to these bytes and to the dat
 
 from __future__ import annotations
 
+import contextlib
 import struct
+from collections.abc import Iterator
 from random import Random
 
 I32, I64 = 0x7F, 0x7E
@@ -35,29 +37,9 @@ SET = {I32: [3, 4], I64: [1, 2, 5]}
 COUNTERS = [6, 7, 8]
 # Numbers at the borders of the operations.
 BORDERS = [0, 1, 2, 3, 5, 31, 32, 33, 63, 64, 65, 127, 128, 255, 256, 32767, 32768, 65535, 65536]
-BORDERS += [
-    2**31 - 1,
-    2**31,
-    2**31 + 1,
-    2**32 - 2,
-    2**32 - 1,
-    2**32,
-    2**32 + 1,
-    2**62,
-    2**63 - 1,
-    2**63,
-    2**63 + 1,
-]
-BORDERS += [
-    2**64 - 1,
-    2**64 - 2,
-    2**64 - 32,
-    2**64 - 128,
-    2**64 - 129,
-    2**64 - 32768,
-    2**64 - 2**31,
-    0x8000000080,
-]
+AROUND = {31: (-1, 0, 1), 32: (-2, -1, 0, 1), 62: (0,), 63: (-1, 0, 1)}
+AROUND[64] = (-1, -2, -32, -128, -129, -(2**15), -(2**31))
+BORDERS += [2**at + it for at, numbers in AROUND.items() for it in numbers] + [0x8000000080]
 
 
 def leb(number: int, is_signed: bool = False) -> bytes:
@@ -94,6 +76,15 @@ class Function:
     def place(self, kind: int, number: bytes) -> None:
         self.relocated.append((kind, len(self.code)))
         self.put(number)
+
+    @contextlib.contextmanager
+    def block(self, number: int, kind: int | None, is_loop: bool = False) -> Iterator[None]:
+        """Begins a block with this result, and ends it."""
+        self.put(number, kind or 0x40)
+        self.blocks.append(False if is_loop else kind)
+        yield
+        self.blocks.pop()
+        self.put(0x0B)
 
     def number(self, kind: int) -> None:
         bits = 32 if kind == I32 else 64
@@ -163,45 +154,39 @@ class Function:
         self.put(0x1B)
 
     def blocked(self, kind: int, depth: int) -> None:
-        self.put(0x02, kind)
-        self.blocks.append(kind)
-        self.statements(2, depth)
-        self.value(kind, depth)
-        self.value(I32, depth)
-        self.put(0x0D, 0)
-        self.statements(1, depth)
-        self.blocks.pop()
-        self.put(0x0B)
+        with self.block(0x02, kind):
+            self.statements(2, depth)
+            self.value(kind, depth)
+            self.value(I32, depth)
+            self.put(0x0D, 0)
+            self.statements(1, depth)
 
     def chosen(self, kind: int, depth: int) -> None:
         self.value(I32, depth)
-        self.put(0x04, kind)
-        self.blocks.append(kind)
-        self.statements(1, depth)
-        self.value(kind, depth)
-        if self.chance.random() < 0.3:
-            self.put(0x0C, 0)
-        self.put(0x05)
-        self.value(kind, depth)
-        self.statements(1, depth)
-        self.blocks.pop()
-        self.put(0x0B)
+        with self.block(0x04, kind):
+            self.statements(1, depth)
+            self.value(kind, depth)
+            if self.chance.random() < 0.3:
+                self.put(0x0C, 0)
+            self.put(0x05)
+            self.value(kind, depth)
+            self.statements(1, depth)
 
-    def repeated(self, kind: int, depth: int) -> None:
-        """A loop that has a value, which its turns leave behind."""
+    def repeated(self, kind: int | None, depth: int) -> None:
+        """A loop, which may have a value that its turns leave behind."""
         if self.loops == len(COUNTERS):
-            self.value(kind, 0)
+            if kind:
+                self.value(kind, 0)
             return
         counter = COUNTERS[self.loops]
-        self.put(0x41, self.chance.randint(1, 3), 0x21, counter, 0x03, kind)
+        self.put(0x41, self.chance.randint(1, 3), 0x21, counter)
         self.loops += 1
-        self.blocks.append(False)
-        self.statements(2, depth)
-        self.value(kind, depth)
-        self.put(0x20, counter, 0x41, leb(-1, True), 0x6A, 0x22, counter, 0x0D, 0)
+        with self.block(0x03, kind, is_loop=True):
+            self.statements(2 if kind else 3, depth)
+            if kind:
+                self.value(kind, depth)
+            self.put(0x20, counter, 0x41, leb(-1, True), 0x6A, 0x22, counter, 0x0D, 0)
         self.loops -= 1
-        self.blocks.pop()
-        self.put(0x0B)
 
     def called(self, kind: int, depth: int) -> None:
         if not self.callable or self.loops:
@@ -217,8 +202,8 @@ class Function:
             self.put(0xA7)
 
     def statements(self, most: int, depth: int) -> None:
-        ways = [self.sets, self.stores, self.stores, self.decides, self.repeats, self.tables, self.tells, self.moves]
-        ways += [self.drops, self.remembers, self.leaves]
+        ways = [self.sets, self.stores, self.stores, self.decides, lambda it: self.repeated(None, it), self.tables]
+        ways += [self.tells, self.moves, self.drops, self.remembers, self.leaves]
         for _ in range(self.chance.randint(0, most) if depth > 0 else 0):
             self.chance.choice(ways)(depth - 1)
 
@@ -237,26 +222,11 @@ class Function:
 
     def decides(self, depth: int) -> None:
         self.value(I32, depth)
-        self.put(0x04, 0x40)
-        self.blocks.append(None)
-        self.statements(2, depth)
-        if self.chance.random() < 0.5:
-            self.put(0x05)
+        with self.block(0x04, None):
             self.statements(2, depth)
-        self.blocks.pop()
-        self.put(0x0B)
-
-    def repeats(self, depth: int) -> None:
-        if self.loops == len(COUNTERS):
-            return
-        counter = COUNTERS[self.loops]
-        self.put(0x41, self.chance.randint(1, 3), 0x21, counter, 0x03, 0x40)
-        self.loops += 1
-        self.blocks.append(False)
-        self.statements(3, depth)
-        self.loops -= 1
-        self.blocks.pop()
-        self.put(0x20, counter, 0x41, leb(-1, True), 0x6A, 0x22, counter, 0x0D, 0, 0x0B)
+            if self.chance.random() < 0.5:
+                self.put(0x05)
+                self.statements(2, depth)
 
     def tables(self, depth: int) -> None:
         """A branch by a table to the ends of three blocks, behind each of which something happens."""
@@ -301,19 +271,16 @@ class Function:
     def leaves(self, depth: int) -> None:
         """Under a condition, a branch, a return or a trap, with something behind it that is never reached."""
         self.value(I32, depth)
-        self.put(0x04, 0x40)
-        self.blocks.append(None)
-        if self.chance.random() < 0.05:
-            self.put(0x00)
-        targets = [at for at, it in enumerate(reversed(self.blocks)) if it is not False]
-        target = self.chance.choice([*targets, len(self.blocks)])
-        kind = I64 if target == len(self.blocks) else self.blocks[-1 - target]
-        if kind:
-            self.value(kind, depth)
-        self.put(*([0x0F] if target == len(self.blocks) and self.chance.random() < 0.5 else [0x0C, target]))
-        self.put(0x02, 0x40, 0x41, 1, 0x0D, 0, 0x0B)
-        self.blocks.pop()
-        self.put(0x0B)
+        with self.block(0x04, None):
+            if self.chance.random() < 0.05:
+                self.put(0x00)
+            targets = [at for at, it in enumerate(reversed(self.blocks)) if it is not False]
+            target = self.chance.choice([*targets, len(self.blocks)])
+            kind = I64 if target == len(self.blocks) else self.blocks[-1 - target]
+            if kind:
+                self.value(kind, depth)
+            self.put(*([0x0F] if target == len(self.blocks) and self.chance.random() < 0.5 else [0x0C, target]))
+            self.put(0x02, 0x40, 0x41, 1, 0x0D, 0, 0x0B)
 
     def result(self) -> None:
         """Returns a sum of all locals that are set."""
@@ -358,9 +325,8 @@ def section(number: int, body: bytes) -> bytes:
 
 
 def relocations(of: str, number: int, found: list[tuple[int, int]]) -> bytes:
-    entries = [
-        bytes([kind]) + leb(at) + leb(0) + (leb(0) if kind in (OFFSET, ADDRESS, WORD) else b"") for kind, at in found
-    ]
+    more = {it: leb(0) for it in (OFFSET, ADDRESS, WORD)}
+    entries = [bytes([kind]) + leb(at) + leb(0) + more.get(kind, b"") for kind, at in found]
     return section(0, name(f"reloc.{of}") + leb(number) + vector(entries))
 
 

@@ -3,15 +3,13 @@ same module in Node, under each compiler. Mistakes in what makes the file are fo
 is not known is refused."""
 
 import functools
-import os
 import random
-import shutil
 import sys
 
 import assembled
 import pytest
 from needs import need
-from shared import ROOT, run, text_of, write
+from shared import ROOT, make, run, said, text_of, write
 
 pytestmark = pytest.mark.whole
 HERE = f"{ROOT}/tests/library"
@@ -170,12 +168,9 @@ def test_operations(random_functions: Assembled, folder: str, words: list[str]) 
 def test_faults(some_functions: Assembled, folder: str, file: str, old: str, new: str, more: list[str]) -> None:
     """A mistake in what makes the file is found by these functions."""
     need("gcc")
-    for it in MAKING:
-        os.makedirs(os.path.dirname(it), exist_ok=True)
-        shutil.copy(f"{ROOT}/{it}", it)
-    text = text_of(file)
-    assert old in text
-    write(file, text.replace(old, new, 1))
+    texts = {it: text_of(f"{ROOT}/{it}") for it in MAKING}
+    assert old in texts[file]
+    make(texts | {file: texts[file].replace(old, new, 1)})
     stops = some_functions.make(folder, folder)
     assert stops or some_functions.by_c(folder, "gcc", "-O0", *more) != some_functions.by_node
 
@@ -187,8 +182,4 @@ def test_stops(folder: str, why: str, old: bytes, new: bytes, other: dict[str, b
     assert old in module
     write("module.wasm", module.replace(old, new, 1))
     found = run([sys.executable, "-c", MAKES, f"{ROOT}/tools", "module.wasm"])
-    assert (found.out, found.err, found.status) == (
-        b"",
-        f"dnorm: the module cannot be made into C: {why}\n".encode(),
-        1,
-    )
+    assert found == said("", f"dnorm: the module cannot be made into C: {why}\n", 1)

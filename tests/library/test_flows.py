@@ -146,9 +146,8 @@ def test_distances(c_library: str, folder: str) -> None:
         wanted += [["f", str(tail), str(head)] for tail, head, _ in lines]
         assert [it[:3] for it in rows] == wanted, text
         units = [int(it[3]) for it in rows[len(sources) :]]
-        assert sum(number * length for number, (_, _, length) in zip(units, lines)) == sum(
-            sum(it.values()) for it in found
-        )
+        all_ = sum(sum(it.values()) for it in found)
+        assert sum(number * length for number, (_, _, length) in zip(units, lines)) == all_
         # Each path ends at its node, and begins at its source.
         into = {node: 0 for it in found for node in it}
         for number, (tail, head, _) in zip(units, lines):

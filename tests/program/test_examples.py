@@ -20,7 +20,7 @@ from typing import Any
 import pytest
 from needs import leave_out, need_proc, pass_over
 from refusal_table import refusals, with_example
-from shared import LIMIT, ROOT, Answer, links_listed, listed, python_with, run, said, source_of, text_of, write
+from shared import LIMIT, OF_GIT, ROOT, Answer, links_listed, listed, python_with, run, said, source_of, text_of, write
 
 README, REFUSALS = "README.md", "docs/REFUSALS.md"
 PAGES = [README, "docs/MANUAL.md", "docs/FILES.md", "docs/LIBRARY.md", REFUSALS]
@@ -108,8 +108,7 @@ class Examples:
     def __init__(self, name: str, tested: str, made: str, folder: str) -> None:
         self.name, self.folder = name, folder
         self.sections = sections_of_page(name)
-        own = {f"GIT_{one}_{it}": "a@example.org" for one in ["AUTHOR", "COMMITTER"] for it in ["NAME", "EMAIL"]}
-        own |= {"GIT_CONFIG_GLOBAL": "/dev/null", "GIT_CONFIG_NOSYSTEM": "1", "LC_ALL": "C", "HOME": f"{folder}/home"}
+        own = {**OF_GIT, "LC_ALL": "C", "HOME": f"{folder}/home"}
         # The user's folder must not hide the python3 that runs this test.
         path = [f"{folder}/home/.local/bin", os.path.dirname(sys.executable), os.environ["PATH"]]
         self.environment = {**os.environ, **own, "PATH": ":".join(path)}
@@ -158,13 +157,12 @@ class Examples:
             if it.name:
                 write(f"{place}/{it.name}", it.text)
         commands = [it for it in blocks if not it.name]
-        self.by_shell(
-            shell, "".join(f"exec > {outputs}/{i} 2>&1\n{it.text}" for i, it in enumerate(commands)), cwd=place
-        )
-        found = [
-            text_of(f"{outputs}/{i}", "replace") if os.path.exists(f"{outputs}/{i}") else ""
-            for i in range(len(commands))
-        ]
+        lines = [f"exec > {outputs}/{i} 2>&1\n{it.text}" for i, it in enumerate(commands)]
+        # A shell that ends early leaves no files for the commands behind.
+        for i in range(len(commands)):
+            write(f"{outputs}/{i}", "")
+        self.by_shell(shell, "".join(lines), cwd=place)
+        found = [text_of(f"{outputs}/{i}", "replace") for i in range(len(commands))]
         shutil.rmtree(place)
         shutil.rmtree(outputs)
         for printed, it in zip(found, commands):

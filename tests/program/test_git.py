@@ -8,7 +8,7 @@ import shutil
 import pytest
 from known import ROADS, ROADS_CANON
 from needs import need
-from shared import ROOT, Answer, run, write
+from shared import OF_GIT, ROOT, Answer, run, write
 
 
 # Counts at the end.
@@ -27,9 +27,7 @@ class Repository:
         os.mkdir(self.top)
         os.symlink(tested, f"{folder}/bin/dnorm")
         os.symlink(f"{ROOT}/dnorm-files", f"{folder}/bin/dnorm-files")
-        who = {f"GIT_{one}_{it}": "a@example.org" for one in ["AUTHOR", "COMMITTER"] for it in ["NAME", "EMAIL"]}
-        alone = {"GIT_CONFIG_GLOBAL": "/dev/null", "GIT_CONFIG_NOSYSTEM": "1"}
-        self.environment = {**os.environ, **who, **alone, "PATH": f"{folder}/bin:{os.environ['PATH']}"}
+        self.environment = {**os.environ, **OF_GIT, "PATH": f"{folder}/bin:{os.environ['PATH']}"}
         self.environment["DNORM_LIBRARY"] = f"{c_library}/lib/libdnorm.so.3"
         self.git("init", "-q")
         self.git("config", "diff.dnorm.textconv", f"{ROOT}/share/git/textconv")
@@ -49,9 +47,8 @@ class Repository:
 
     def blob(self, text: bytes) -> str:
         """Keeps a text in the repository, and returns its name there."""
-        return (
-            run(["git", "hash-object", "-w", "--stdin"], text, cwd=self.top, env=self.environment).out.decode().strip()
-        )
+        found = run(["git", "hash-object", "-w", "--stdin"], text, cwd=self.top, env=self.environment)
+        return found.out.decode().strip()
 
     def commits(self, what: str, err: bytes = b"") -> None:
         """Tests that what is staged is committed, or is refused with these lines."""

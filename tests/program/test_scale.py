@@ -15,7 +15,7 @@ from typing import Any
 import pytest
 from needs import pass_over, seeds
 from reading import MOST
-from shared import LIMIT, ROOT, Answer, pipe, run, said, text_of, write
+from shared import IN_A_WAIT, LIMIT, ROOT, Answer, pipe, run, said, text_of, write
 from texts import lines_of, made, spelled, spoilt
 
 pytestmark = pytest.mark.whole
@@ -143,8 +143,7 @@ class Scale:
         """Makes a program that runs this command in place of canonicalising a part."""
         path = f"{self.folder}/stand-in"
         shutil.rmtree(f"{path}.head", ignore_errors=True)
-        write(path, STAND_IN.format(does, shlex.quote(self.program)))
-        os.chmod(path, 0o755)
+        write(path, STAND_IN.format(does, shlex.quote(self.program)), 0o755)
         return path
 
 
@@ -260,26 +259,11 @@ def test_signal(scale: Scale, heeded: None, number: signal.Signals, text: bytes)
     assert [it for it in text_of(begun).split() if is_running(it)] == [], "processes left"
 
 
-# A signal comes while the main thread waits, and has let the lock go.
-IN_A_WAIT = """
-import signal, sys, threading
-from dnorm.parts.line import main
-waited = threading.Condition.wait
-def wait(self, timeout=None):
-    if threading.current_thread() is threading.main_thread():
-        self._release_save()
-        signal.raise_signal(signal.SIGTERM)
-    return waited(self, timeout)
-threading.Condition.wait = wait
-sys.exit(main(sys.argv[1:]))
-"""
-
-
 def test_signal_in_a_wait(scale: Scale, heeded: None) -> None:
     """A signal ends the script also where `threading` makes an error of its own of it."""
     words = scale.words("--lines", "3", "./-n.min", tested=scale.stand_in("exec sleep 30"))[1:]
     own = {**os.environ, "PYTHONPATH": f"{ROOT}/python/src", "PYTHONDONTWRITEBYTECODE": "1"}
-    found = run([sys.executable, "-c", IN_A_WAIT, *words], env=own)
+    found = run([sys.executable, "-c", IN_A_WAIT.format("dnorm.parts.line"), *words], env=own)
     assert found == said(b"", b"", 128 + signal.SIGTERM)
     assert os.listdir(scale.temporary) == []
 
@@ -299,8 +283,7 @@ def test_clone(tested: str, folder: str, own: str, status: int) -> None:
     shutil.copytree(f"{ROOT}/python", "clone/python", ignore=shutil.ignore_patterns("__pycache__"))
     for it in [SCRIPT, f"{ROOT}/dnorm-files"]:
         shutil.copy(it, "clone")
-    write("clone/dnorm", f"#!/bin/sh\nP={shlex.quote(tested)}\n{own}\n")
-    os.chmod("clone/dnorm", 0o755)
+    write("clone/dnorm", f"#!/bin/sh\nP={shlex.quote(tested)}\n{own}\n", 0o755)
     wanted = run([tested, "canon", "-"], SUPPLIES).out if not status else b""
     assert run(["clone/canon-in-parts", "--lines", "2", "-"], SUPPLIES) == said(wanted, b"", status)
 

@@ -14,9 +14,8 @@ from collections.abc import Callable
 
 from known import ROADS
 from reading import Fault, read
-from shared import ROOT, write
+from shared import ROOT, make, write
 from test_calls import COMPRESS
-from test_folders import make
 from texts import lines_of, made, spelled
 
 SEED, COUNT = 64, 300

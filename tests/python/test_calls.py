@@ -15,15 +15,15 @@ import re
 import signal
 import sys
 from collections import Counter
-from collections.abc import Callable, Iterator
+from collections.abc import Callable
 from concurrent.futures import ThreadPoolExecutor
 from pathlib import Path
 from typing import Any, Literal
+from unittest import mock
 
 import pytest
 from known import CANONICAL, COSTS, ROADS, ROADS_CANON
 from reading import COUNTED, Fault, Text, canonical, read
-from refusal_table import with_example
 from shared import ROOT, Answer, bytes_of, run, write
 from texts import lines_of, made, spelled
 
@@ -66,6 +66,13 @@ def told(call: Callable[[], object]) -> str:
     return answer.decode() if isinstance(answer, bytes) else f"{answer}\n"
 
 
+def error_of(call: Callable[[], object], kind: type[dnorm.DnormError] = dnorm.Refused) -> Any:
+    """Returns the error of this kind that a call raises."""
+    with pytest.raises(kind) as caught:
+        call()
+    return caught.value
+
+
 CALLS: dict[str, Callable[[dnorm.File], object]] = {
     "check": dnorm.check, "canon": dnorm.canon, "canon_to": lambda file: dnorm.canon_to(file, io.BytesIO()),
     "checksum": dnorm.checksum, "read": dnorm.read,
@@ -93,19 +100,9 @@ def test_refused(tested: str, name: str) -> None:
             assert told(lambda: of(file)) == f"Refused: -:{line}", f"{call} of a {type(file).__name__}"
 
 
-def test_all_refused() -> None:
-    numbers = [int(name.partition("-")[0]) for name in sorted(os.listdir(REFUSED))]
-    assert numbers == [it.number for it in with_example()]
-
-
-@contextlib.contextmanager
-def standing_in(library: str, **settings: object) -> Iterator[None]:
+def standing_in(library: str, **settings: object) -> contextlib.AbstractContextManager[object]:
     """Lets calls and commands read by the library of the fixture `stand_in`, with these settings."""
-    kept = dict(os.environ)
-    os.environ.update({"DNORM_LIBRARY": library} | {name: str(it) for name, it in settings.items()})
-    yield
-    os.environ.clear()
-    os.environ.update(kept)
+    return mock.patch.dict(os.environ, {"DNORM_LIBRARY": library, **{name: str(it) for name, it in settings.items()}})
 
 
 def test_no_memory(stand_in: str) -> None:
@@ -193,18 +190,18 @@ def test_threads() -> None:
 
 def test_errors() -> None:
     """Errors can be pickled, and what they say of themselves."""
-    found: list[dnorm.DnormError] = [
-        dnorm.Refused("a.gr", *it) for it in [(3, 13, "NodeOutOfRange"), (None, 18, "NoProblem")]
-    ]
-    found += [dnorm.Refused("s.ss", None, 35, "NotInGraph", 7), dnorm.Memory("a.gr"), dnorm.Endless("a.gr")]
+    found: list[dnorm.DnormError] = [dnorm.Refused("a.gr", 3, 13, "NodeOutOfRange")]
+    found += [dnorm.Refused("a.gr", None, 18, "NoProblem"), dnorm.Refused("s.ss", None, 35, "NotInGraph", 7)]
+    found += [dnorm.Memory("a.gr"), dnorm.Endless("a.gr")]
     found += [dnorm.Read("a.gr"), dnorm.Read("a.gr", "why"), dnorm.Write("out", "why"), dnorm.NoLibrary("lib", "why")]
-    found += [dnorm.TimedOut("a.gr", 0.5)]
+    found += [dnorm.TimedOut("a.gr", 0.5), dnorm.Read("a.gr.gz", "why", "a hint")]
+    found += [dnorm.Refused("a.gr", 3, 13, "NodeOutOfRange", None, "a 1 3 7", "NODES 2: nodes count from 1")]
     for error in found:
         again = pickle.loads(pickle.dumps(error))
         assert (type(again), str(again), vars(again)) == (type(error), str(error), vars(error)), f"{error!r}, pickled"
     lines = ["a.gr:3: 13 NodeOutOfRange", "a.gr:end: 18 NoProblem", "s.ss: 35 NotInGraph 7", "a.gr: 30 Memory"]
     lines += ["a.gr: 32 Endless", "a.gr: 31 Read", "a.gr: 31 Read (why)", "out: 33 Write (why)"]
-    lines += ["lib: cannot be used (why)", "a.gr: took more than 0.5 seconds"]
+    lines += ["lib: cannot be used (why)", "a.gr: took more than 0.5 seconds", "a.gr.gz: 31 Read (why)", lines[0]]
     assert [str(it) for it in found] == lines, "lines of errors"
     first = dnorm.Refused("a.gr", 3, 13, "NodeOutOfRange")
     assert first.sentence == "A node is not in 1 to NODES; in a companion, below 1.", "a sentence"

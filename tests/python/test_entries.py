@@ -9,8 +9,8 @@ import sys
 import pytest
 from known import ROADS
 from needs import need
-from shared import ROOT, Answer, run, text_of, write
-from test_calls import PACKAGE, READS
+from shared import OF_GIT, ROOT, Answer, run, text_of, write
+from test_calls import PACKAGE, READS, python
 from test_folders import ENVIRONMENT
 
 pytestmark = READS
@@ -33,7 +33,7 @@ LISTS = ["{}", ".:{}", ":{}", "{}:", "{}::/usr/bin", "./:{}"]
 
 def imported(*modules: str) -> set[str]:
     """Returns the names of the modules that Python has imported with these."""
-    ran = run([sys.executable, "-c", IMPORTED, *modules], env={**os.environ, **ENVIRONMENT})
+    ran = python(IMPORTED, *modules)
     assert ran.status == 0, ran.err
     return set(ran.out.decode().split()) - {"dnorm", "__main__"}
 
@@ -52,8 +52,7 @@ def make_traps(modules: set[str]) -> None:
         else:
             write(f"coll/{it}.py", code)
     for it in PROGRAMS:
-        write(f"coll/{it}", f"#!/bin/sh\necho '{it} ' >> '{ran}'\n")
-        os.chmod(f"coll/{it}", 0o755)
+        write(f"coll/{it}", f"#!/bin/sh\necho '{it} ' >> '{ran}'\n", 0o755)
     write(ran, "")
     os.chdir("coll")
 
@@ -119,9 +118,7 @@ def test_module_beside() -> None:
     found = run([sys.executable, "-m", "other", "dnorm"], env={**os.environ, **ENVIRONMENT})
     assert (found.out, found.status) == (b"dnorm\n", 0), found.err
     for argv in [[], ["-m"], ["-m", *9 * ["dnorm"]]]:
-        found = run(
-            [sys.executable, "-c", f"import sys; sys.argv = {argv}; import dnorm"], env={**os.environ, **ENVIRONMENT}
-        )
+        found = python(f"import sys; sys.argv = {argv}; import dnorm")
         assert (found.err, found.status) == (b"", 0), f"a program whose arguments are {argv}"
     os.makedirs("package")
     write("package/__init__.py", "import dnorm\n")
@@ -138,9 +135,8 @@ def test_git(folders: str) -> None:
     os.mkdir("../bin")
     os.symlink(f"{ROOT}/dnorm-files", "../bin/dnorm-files")
     git = shutil.which("git") or ""
-    own = environment()
-    own |= {f"GIT_{one}_{it}": "a@example.org" for one in ["AUTHOR", "COMMITTER"] for it in ["NAME", "EMAIL"]}
-    own |= {"PATH": folders.format(f"{os.path.abspath('../bin')}:{os.environ['PATH']}"), "GIT_CONFIG_NOSYSTEM": "1"}
+    own = environment() | OF_GIT
+    own["PATH"] = folders.format(f"{os.path.abspath('../bin')}:{os.environ['PATH']}")
     subprocess.run([git, "init", "-q"], check=True, env=own)
     shutil.copy(f"{ROOT}/share/git/pre-commit", ".git/hooks/pre-commit")
     subprocess.run([git, "add", "."], check=True, env=own)

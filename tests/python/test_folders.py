@@ -2,8 +2,11 @@
 2,000 files in one call, the progress bar, signals, and streams that fail."""
 
 import contextlib
+import csv
 import ctypes
+import functools
 import hashlib
+import io
 import json
 import os
 import re
@@ -17,8 +20,8 @@ from xml.etree import ElementTree
 import pytest
 from known import COSTS, COSTS_TWO, ROADS, ROADS_CANON
 from needs import terminal
-from shared import LIMIT, Answer, bytes_of, run, said, write
-from test_calls import COMPRESS, PACKAGE, READS, standing_in
+from shared import IN_A_WAIT, LIMIT, Answer, bytes_of, make, run, said, write
+from test_calls import COMPRESS, PACKAGE, READS, python, standing_in
 
 from dnorm.commands.tasks import DONE
 from dnorm.records import SIZES
@@ -36,13 +39,6 @@ def module(*words: str | bytes, **more: Any) -> Answer:
 def started(*words: str, **more: Any) -> "subprocess.Popen[bytes]":
     """Starts `python3 -m dnorm` with these arguments."""
     return subprocess.Popen([*MODULE, *words], env={**os.environ, **ENVIRONMENT}, **more)
-
-
-def make(texts: dict[str, bytes]) -> None:
-    """Makes files with these names and texts, and their folders."""
-    for name, text in texts.items():
-        os.makedirs(os.path.dirname(name) or ".", exist_ok=True)
-        write(name, text)
 
 
 # The files of a folder with what a check says of them, in the order of their names; and other files in it.
@@ -73,12 +69,8 @@ NOT_LOOKED_AT = {
     "set/notes.txt": NO_ENDING,
     "set/pipe": NO_ENDING,
 }
-STRICT = "".join(
-    sorted(
-        [*LINES.splitlines(True), *(f"{name}: 31 Read ({why})\n" for name, why in NOT_LOOKED_AT.items())],
-        key=lambda it: it.partition(":")[0],
-    )
-)
+STRICT_LINES = [*LINES.splitlines(True), *(f"{name}: 31 Read ({why})\n" for name, why in NOT_LOOKED_AT.items())]
+STRICT = "".join(sorted(STRICT_LINES, key=lambda it: it.partition(":")[0]))
 # Arguments of `check`, the lines and the count that it prints, and the status.
 CHECKS = [
     ("set", LINES, "11 accepted, 2 refused, 0 failed, 4 other files", 2),
@@ -203,28 +195,26 @@ def test_permission() -> None:
 ODD = {
     os.fsdecode(b"\xff\xfe.gr"): os.fsdecode(b"\xff\xfe.gr"), " .gr": " .gr", "-x.gr": "-x.gr", "a b.gr": "a b.gr",
     "a:7: 9 NotANumber.gr": "a:7: 9 NotANumber.gr", "x\ny.gr": r"\x\ny.gr", "x\r.gr": r"\x\r.gr",
-    r"x\ny.gr": r"\x\\ny.gr", "B.gr": "B.gr", 'é<&\x01">.gr': 'é<&\x01">.gr',
+    r"x\ny.gr": r"\x\\ny.gr", "B.gr": "B.gr", 'é<&\x01">.gr': 'é<&\x01">.gr', 'e",.gr': 'e",.gr',
 }  # fmt: skip
 
 
 def test_odd_names() -> None:
-    """Odd names in lines, in JSON, in the XML of JUnit, in manifests and in groups."""
+    """Odd names in lines, in JSON, in CSV, in the XML of JUnit, in manifests and in groups."""
     names = sorted(ODD, key=os.fsencode)
     for at, name in enumerate(names):
         write(name, f"p sp {at // 2} 0\n")
     count = f"{len(ODD)} accepted, 0 refused, 0 failed\n"
-    assert module("check", "--", *names) == said(
-        "".join(f"{ODD[it]}: accepted sp\n" for it in names), count, 0
-    ), "odd names"
+    accepted = "".join(f"{ODD[it]}: accepted sp\n" for it in names)
+    assert module("check", "--", *names) == said(accepted, count, 0), "odd names"
     found = module("check", "--json", "--", *names)
     told = [json.loads(it)["name"] for it in found.out.splitlines()[:-1]]
     assert told == names, "odd names in JSON"
+    listed = io.StringIO(os.fsdecode(module("list", "--csv", "--", *names).out), newline="")
+    assert [(it["name"], it["kind"]) for it in csv.DictReader(listed)] == [(it, "sp") for it in names], "in CSV"
     module("check", "--junit", "report", "--", *names)
     cases = [str(it.get("name")) for it in ElementTree.parse("report").iter("testcase")]
-    wanted = [
-        it.encode("utf-8", "surrogateescape").decode("utf-8", "backslashreplace").replace("\x01", r"\x01")
-        for it in names
-    ]
+    wanted = [os.fsencode(it).decode("utf-8", "backslashreplace").replace("\x01", r"\x01") for it in names]
     assert cases == wanted, "odd names in XML"
     found = module("manifest", "--output", "list", "--", *names)
     assert found == said("", f"{len(ODD)} listed, 0 refused, 0 failed\n", 0), "a manifest of odd names"
@@ -270,9 +260,8 @@ def test_reports() -> None:
     assert suite.attrib == {"name": "dnorm", "tests": "14", "failures": "2", "errors": "1"}, "JUnit"
     cases = {it.get("name"): [(one.tag, one.attrib, one.text) for one in it] for it in suite}
     bad = {"type": "MissingTerminal", "message": "set/bad.max:end: 19 MissingTerminal"}
-    assert cases["set/bad.max"] == [
-        ("failure", bad, f"A max file has no source or no sink.\n{TERMINAL}")
-    ], "a refused file in XML"
+    refused = [("failure", bad, f"A max file has no source or no sink.\n{TERMINAL}")]
+    assert cases["set/bad.max"] == refused, "a refused file in XML"
     lost = {"type": "Read", "message": MISSING[:-1]}
     told = "A file of this kind has no line with this letter.\nline 2: s 1"
     assert cases["set/v.co"][0][2] == told, "a refused line in XML"
@@ -303,7 +292,7 @@ def test_few_threads() -> None:
     make_set()
     wanted, own = module("check", "set"), {**os.environ, **ENVIRONMENT}
     for most in "013":
-        assert run([sys.executable, "-c", FEW_THREADS, most, "check", "-j", "4", "set"], env=own) == wanted, most
+        assert python(FEW_THREADS, most, "check", "-j", "4", "set") == wanted, most
     for kilobytes in [50_000, 60_000]:
         command = ["bash", "-c", f'ulimit -v {kilobytes}; exec "$@"', "bash", *MODULE, "check", "-j", "4", "set"]
         found = run(command, env=own)
@@ -390,32 +379,13 @@ def test_signals(stand_in: str) -> None:
             assert (bytes_of("kept"), hidden()) == (b"old", []), f"{words} leaves"
     write("log", b"")
     with standing_in(stand_in, WAIT=500, LOG="log"):
-        ignoring = started(
-            *["check", names[0]],
-            stdout=-1,
-            stderr=-1,
-            preexec_fn=lambda: signal.signal(signal.SIGHUP, signal.SIG_IGN),
-        )
+        ignores = functools.partial(signal.signal, signal.SIGHUP, signal.SIG_IGN)
+        ignoring = started("check", names[0], stdout=-1, stderr=-1, preexec_fn=ignores)
     while not bytes_of("log"):
         time.sleep(0.01)
     ignoring.send_signal(signal.SIGHUP)
     ignoring.communicate(timeout=LIMIT)
     assert ignoring.returncode == 0, "a signal that is ignored, as by nohup"
-
-
-# A signal comes while the main thread waits for a thread that starts, and has let the lock go.
-IN_A_WAIT = """
-import signal, sys, threading
-from dnorm.commands.line import main
-waited = threading.Condition.wait
-def wait(self, timeout=None):
-    if threading.current_thread() is threading.main_thread():
-        self._release_save()
-        signal.raise_signal(signal.SIGTERM)
-    return waited(self, timeout)
-threading.Condition.wait = wait
-sys.exit(main(sys.argv[1:]))
-"""
 
 
 @pytest.mark.parametrize("words", ["check a.gr", "compare a.gr a.gr", "compare --timeout 60 a.gr pipe"])
@@ -425,8 +395,7 @@ def test_signal_as_a_thread_starts(stand_in: str, words: str) -> None:
     # Nothing writes it.
     os.mkfifo("pipe")
     with standing_in(stand_in, WAIT=200 if "compare" in words else 60_000):
-        own = {**os.environ, **ENVIRONMENT}
-    ran = run([sys.executable, "-c", IN_A_WAIT, *words.split()], limit=30, env=own)
+        ran = python(IN_A_WAIT.format("dnorm.commands.line"), *words.split(), limit=30)
     told = b"" if "compare" in words else b"0 accepted, 0 refused, 0 failed, 0 of 1 done\n"
     assert ran == Answer(b"", told, -signal.SIGTERM)
 
@@ -462,10 +431,8 @@ def test_known_so_far(stand_in: str) -> None:
         lines = [*(f"{it}.gr: accepted sp\n" for it in range(3)), "3.gr:1: 1 BadLine\n"]
         cause = "3.gr:1: 1 BadLine\n    line 1: bad\n3 accepted, 1 refused, 0 failed, 4 of 6 done\n"
         assert found == said("".join(lines), cause, 2), f"check {option}"
-    found = module("check", "-x", "0.gr", "1.gr")
-    assert found == said(
-        "0.gr: accepted sp\n1.gr: accepted sp\n", "2 accepted, 0 refused, 0 failed\n", 0
-    ), "check -x of good files"
+    wanted_ = said("0.gr: accepted sp\n1.gr: accepted sp\n", "2 accepted, 0 refused, 0 failed\n")
+    assert module("check", "-x", "0.gr", "1.gr") == wanted_, "check -x of good files"
 
 
 def hidden() -> list[str]:
@@ -511,9 +478,8 @@ def test_outputs(words: str) -> None:
 def test_all_streams() -> None:
     make_set()
     assert by_shell("dnorm check set/a <&- >&- 2>&-") == said("", "", 4), "nothing open"
-    warned = run(
-        [sys.executable, "-X", "dev", "-W", "error", *MODULE[1:], "check", "set/a"], env={**os.environ, **ENVIRONMENT}
-    )
+    words = ["-X", "dev", "-W", "error", *MODULE[1:], "check", "set/a"]
+    warned = run([sys.executable, *words], env={**os.environ, **ENVIRONMENT})
     assert (warned.err, warned.status) == (b"3 accepted, 0 refused, 0 failed, 1 other file\n", 0), "with all warnings"
 
 

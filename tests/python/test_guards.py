@@ -13,10 +13,10 @@ import shutil
 from collection import BAD, COUNT, FAULTS, NO, NO_GRAPH, OTHER_KIND, OTHERS, make_collection, make_pipes
 from known import ROADS
 from needs import need
-from shared import ROOT, Answer, run, write
+from shared import OF_GIT, ROOT, Answer, make, run, write
 from test_calls import READS
 from test_ci import fields_of_hook
-from test_folders import make, module
+from test_folders import module
 
 pytestmark = READS
 
@@ -70,9 +70,8 @@ class Repository:
     def __init__(self) -> None:
         os.mkdir("bin")
         os.symlink(f"{ROOT}/dnorm-files", "bin/dnorm-files")
-        who = {f"GIT_{one}_{it}": "a@example.org" for one in ["AUTHOR", "COMMITTER"] for it in ["NAME", "EMAIL"]}
-        alone = {"GIT_CONFIG_GLOBAL": "/dev/null", "GIT_CONFIG_NOSYSTEM": "1", "LC_ALL": "C.UTF-8"}
-        self.environment = {**os.environ, **who, **alone, "PATH": f"{os.getcwd()}/bin:{os.environ['PATH']}"}
+        path = f"{os.getcwd()}/bin:{os.environ['PATH']}"
+        self.environment = {**os.environ, **OF_GIT, "LC_ALL": "C.UTF-8", "PATH": path}
         self.git("init", "-q", "-b", "main")
         write("first.txt", "first")
         self.git("add", "first.txt")
@@ -200,12 +199,8 @@ def test_by_pre_commit() -> None:
     """The hook for pre-commit, called as pre-commit calls it: with the files that match its expressions."""
     remarks = make_collection()
     fields = fields_of_hook()
-    names = [
-        os.path.join(at, it)
-        for at, _, below in os.walk("coll")
-        for it in below
-        if "/.git" not in at and "inst/CVS" not in at
-    ]
+    names = [os.path.join(at, it) for at, _, below in os.walk("coll") for it in below]
+    names = [it for it in names if not it.startswith(("coll/.git/", "coll/inst/CVS/"))]
     chosen = [it for it in names if re.search(fields["files"], it) and not re.search(fields["exclude"], it)]
     assert sorted(set(names) - set(chosen)) == sorted(OTHERS), "files that are not chosen"
     environment = {it: value for it, value in os.environ.items() if it != "PYTHONPATH"}

@@ -23,7 +23,7 @@ from known import ROADS, ROADS_CANON
 from needs import leave_out
 from reading import GRAPHS, MOST, Fault, Text, canonical, read
 from shared import ROOT, bytes_of, run
-from test_calls import BOTH, COLUMNS, FORMS, PACKAGE, READS, has_numpy, told
+from test_calls import BOTH, COLUMNS, FORMS, PACKAGE, READS, has_numpy, python, told
 from texts import lines_of, made, spelled
 
 import dnorm
@@ -92,9 +92,7 @@ def arrays(values: Any) -> Any:
 
 def ends(values: Any) -> Any:
     """Returns a `max` graph of two nodes with this source or sink."""
-    return dnorm.from_arrays(
-        "max", **{"nodes": 2, "tails": [], "heads": [], "capacities": []}, **{"source": 1, "sink": 2, **values}
-    )
+    return dnorm.from_arrays("max", nodes=2, tails=[], heads=[], capacities=[], **{"source": 1, "sink": 2, **values})
 
 
 def flows(supplies: Any) -> Any:
@@ -205,10 +203,8 @@ def test_numpy() -> None:
         lambda: dnorm.Ss(numpy.ones(2, "int32")),
     ]:
         assert told(call).startswith("TypeError: sources"), "masked, nested and other numbers"
-    too_large = numpy.array([2**63], "uint64")
-    assert told(lambda: dnorm.from_arrays("ss", sources=too_large)).startswith(
-        "OverflowError: sources has 9223"
-    ), "2^63"
+    found = told(lambda: dnorm.from_arrays("ss", sources=numpy.array([2**63], "uint64")))
+    assert found.startswith("OverflowError: sources has 9223"), "2^63"
 
 
 @BOTH
@@ -323,13 +319,10 @@ def test_faulty() -> None:
     assert bytes_of("roads.gr") == ROADS_CANON, "a file"
     dnorm.write(dnorm.read(ROADS), "roads.gr.bz2")
     assert bz2.decompress(bytes_of("roads.gr.bz2")) == ROADS_CANON, "a compressed file"
-    rows: list[tuple[dict[str, Any], str]] = [
-        ({"heads": [3]}, "Refused: roads.gr:2: 13 NodeOutOfRange"),
-        ({"tails": [0]}, "Refused: roads.gr:2: 13 NodeOutOfRange"),
-    ]
-    for attributes, wanted in rows:
-        found = told(lambda: dnorm.write(arrays(attributes), "roads.gr"))
-        assert (found, bytes_of("roads.gr")) == (wanted, ROADS_CANON), f"write {attributes}"
+    for name, node in [("heads", 3), ("tails", 0)]:
+        found = told(lambda: dnorm.write(arrays({name: [node]}), "roads.gr"))
+        wanted = "Refused: roads.gr:2: 13 NodeOutOfRange"
+        assert (found, bytes_of("roads.gr")) == (wanted, ROADS_CANON), f"write {name} {node}"
     with warnings.catch_warnings(record=True) as seen:
         warnings.simplefilter("always")
         for name in ["flow.gr.gz", "flow.min", "flow.txt"]:
@@ -347,16 +340,11 @@ def test_faulty() -> None:
 
 def test_typed() -> None:
     """Runs the page of ordinary use, which tools/lint gives to mypy."""
-    found = run(
-        [sys.executable, f"{ROOT}/tests/python/typed.py"],
-        cwd=f"{ROOT}/examples",
-        env={**os.environ, "PYTHONPATH": PACKAGE},
-    )
+    own = {**os.environ, "PYTHONPATH": PACKAGE}
+    found = run([sys.executable, f"{ROOT}/tests/python/typed.py"], cwd=f"{ROOT}/examples", env=own)
     wanted = "10 None 9\ncost of 1 2 same\n-1 at 5 from 1 MIN and SP\n(2, 'NodeOutOfRange') (None, 'sp (1, 2)')\n"
     wanted += "p sp 2 2\na 1 2 7\na 1 2 4\n2 [7, 4]\n90\n(11, 2)\n2 edges, 2 entries, 2 rows, 4 the least\n"
-    lacking = [
-        it for it in ["numpy", "networkx", "scipy", "pandas"] if run([sys.executable, "-c", f"import {it}"]).status
-    ]
+    lacking = [it for it in ["numpy", "networkx", "scipy", "pandas"] if python(f"import {it}").status]
     # Without one of these, the page ends before the line that needs it.
     assert (wanted.startswith(found.out.decode()), found.err, found.status) == (True, b"", 0), "typed.py"
     if lacking:

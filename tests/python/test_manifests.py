@@ -4,14 +4,13 @@ only what is new or was written."""
 import hashlib
 import os
 import shutil
-import sys
 import time
 
 import pytest
 from known import COSTS, FLOWS, ROADS
-from shared import bytes_of, run, said, text_of, write
-from test_calls import READS
-from test_folders import ENVIRONMENT, MISSING, SET, hidden, make, make_set, module
+from shared import bytes_of, make, run, said, text_of, write
+from test_calls import READS, python
+from test_folders import MISSING, SET, hidden, make_set, module
 
 import dnorm
 
@@ -54,10 +53,9 @@ def test_manifests(tested: str) -> None:
     refused = "set/bad.max:end: 19 MissingTerminal\nset/v.co:2: 5 WrongLine\n"
     for form in "12":
         lines = "".join(f"{sum_of(tested, text, form)}  {name}\n" for name, text in accepted.items())
+        told = f"{refused}11 listed, 2 refused, 0 failed, 4 other files\n"
         found = module("manifest", "--form", form, "set")
-        assert found == said(
-            f"# form {form}, 11 files\n{lines}", f"{refused}11 listed, 2 refused, 0 failed, 4 other files\n", 2
-        ), f"a manifest of form {form}"
+        assert found == said(f"# form {form}, 11 files\n{lines}", told, 2), f"a manifest of form {form}"
         same = "".join(f"{name}: same\n" for name in accepted)
         # The last two are of earlier versions.
         for head in [f"# form {form}, 11 files\n", f"# form {form}\n", *([""] if form == "1" else [])]:
@@ -246,6 +244,6 @@ def test_written_meanwhile(meanwhile: str) -> None:
     shutil.copy2("set/a.gr", "kept")
     time.sleep(AGE)
     code = WRITES.format(f"cat kept > set/a.gr{meanwhile}")
-    assert run([sys.executable, "-c", code, *BEGIN], env={**os.environ, **ENVIRONMENT}).status in (0, 4)
+    assert python(code, *BEGIN).status in (0, 4)
     found = text_of("list") if os.path.exists("list") else ""
     assert "\t" not in found, f"a mark, {meanwhile}"

@@ -3,15 +3,14 @@ replaced or written meanwhile gives the answer of one of its states, or a failur
 
 import json
 import os
-import sys
 from collections.abc import Callable
 from typing import Any
 
 from known import ROADS, ROADS_CANON
 from needs import leave_out, need_proc
-from shared import Answer, bytes_of, python_with, run, write
-from test_calls import READS, told
-from test_folders import ENVIRONMENT, MODULE
+from shared import bytes_of, python_with, run, write
+from test_calls import READS, error_of, told
+from test_folders import ENVIRONMENT, by_shell
 
 import dnorm
 import dnorm.files
@@ -38,19 +37,13 @@ def test_pipes() -> None:
     facts = {"nodes": 3, "declared": 7, "canonical": 5, "merged": 2, "checksum": dnorm.checksum(ROADS)}
     facts |= {"bytes": len(ROADS)}
     for words, out, status in PIPES:
-        found = by_bash(words)
+        found = by_shell(words)
         assert found.status == status, f"the status of {words}: {found.err!r}"
         if out is None:
             record = json.loads(found.out.partition(b"\n")[0] or b"{}")
             assert {it: record.get(it) for it in facts} == facts, words
         else:
             assert found.out.decode() == out, words
-
-
-def by_bash(words: str) -> Answer:
-    """Runs a command of bash."""
-    environment = {**os.environ, **ENVIRONMENT, "PYTHON": sys.executable}
-    return run(["bash", "-c", f'dnorm() {{ "$PYTHON" {" ".join(MODULE[1:])} "$@"; }}; {words}'], env=environment)
 
 
 class Meanwhile:
@@ -123,10 +116,8 @@ def test_meanwhile() -> None:
                 assert told(call) == CHANGED, f"{name} of {text!r:.20}, written"
     write("t.gr", BAD)
     with Meanwhile(replace):
-        try:
-            dnorm.check("t.gr")
-        except dnorm.Refused as error:
-            assert (error.text, error.hint) == ("a 1 3 5", HINT), "the cause in what was opened"
+        error = error_of(lambda: dnorm.check("t.gr"))
+    assert (error.text, error.hint) == ("a 1 3 5", HINT), "the cause in what was opened"
 
 
 CHANGED = "Read: t.gr: 31 Read (it changed while it was read)"
@@ -174,9 +165,8 @@ def test_with_numpy() -> None:
     if not python:
         leave_out("numpy")
     environment = {**os.environ, **ENVIRONMENT}
-    with_, without = (
-        run([python, "-c", DESCRIBED, it, ENVIRONMENT["PYTHONPATH"]], env=environment) for it in ("with", "without")
-    )
+    words = [python, "-c", DESCRIBED]
+    with_, without = (run([*words, it, ENVIRONMENT["PYTHONPATH"]], env=environment) for it in ("with", "without"))
     assert (without.err, without.status) == (b"", 0), "without numpy"
     for one, other in zip(with_.out.splitlines(), without.out.splitlines()):
         assert one.decode() == other.decode(), "a line with numpy and without it"

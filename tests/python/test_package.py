@@ -12,7 +12,7 @@ import pytest
 from known import ROADS
 from needs import leave_out, pass_over
 from shared import ROOT, python_with, run, said, text_of, write
-from test_calls import PACKAGE, READS
+from test_calls import PACKAGE, READS, python
 from test_folders import ENVIRONMENT, module
 
 import dnorm
@@ -81,8 +81,7 @@ def test_clone(c_library: str, status: int) -> None:
     for it in ["dnorm-files", "dnorm-explain"]:
         shutil.copy(f"{ROOT}/{it}", f"clone/{it}")
     makes = f"cp {shlex.quote(c_library)}/lib/libdnorm.so.3 clone/c/out/lib"
-    write("clone/tools/c-library", f"#!/bin/sh\necho made >> log\n{makes}\nexit {status}\n")
-    os.chmod("clone/tools/c-library", 0o755)
+    write("clone/tools/c-library", f"#!/bin/sh\necho made >> log\n{makes}\nexit {status}\n", 0o755)
     environment = {it: value for it, value in os.environ.items() if it != "DNORM_LIBRARY"}
     files = [f"{ROOT}/examples/{it}" for it in ("roads.gr", "flow.min")]
     found = run(["clone/dnorm-files", "check", "-q", *files], env=environment)
@@ -122,24 +121,23 @@ def test_lacking() -> None:
     """The package without a call that other systems lack."""
     write("b.gr", ROADS)
     write("x.gr", b"p sp 2 1\na 1 3 5\n")
-    found = run([sys.executable, "-c", LACKING, "check", "b.gr", "x.gr"], env={**os.environ, **ENVIRONMENT})
+    found = python(LACKING, "check", "b.gr", "x.gr")
     assert (found.out, found.status) == (b"b.gr: accepted sp\nx.gr:2: 13 NodeOutOfRange\n", 2)
 
 
 def test_source() -> None:
     """What setuptools builds from the files of the source distribution reads texts."""
-    python = python_with("setuptools") or leave_out("setuptools")
+    by = python_with("setuptools") or leave_out("setuptools")
     shutil.copytree(f"{ROOT}/python", "it", ignore=shutil.ignore_patterns("__pycache__"))
     shutil.copytree(f"{ROOT}/released/c", "it/c")
-    ran = run([str(python), "setup.py", "-q", "build_ext", "--inplace"], cwd="it", env={**os.environ, "CFLAGS": "-O0"})
+    ran = run([by, "setup.py", "-q", "build_ext", "--inplace"], cwd="it", env={**os.environ, "CFLAGS": "-O0"})
     assert ran.status == 0, ran.err
     write("roads.gr", ROADS)
     own = {**os.environ, "PYTHONPATH": "it/src", "DNORM_LIBRARY": "", "PYTHONDONTWRITEBYTECODE": "1"}
     code = "import dnorm; print(dnorm.find_library(), dnorm.check('roads.gr'))"
-    found = run([str(python), "-c", code], env=own).out.decode()
-    assert re.fullmatch(
-        r"\S+/it/src/dnorm/libdnorm\.\S+\.so Checked\(kind='sp', fits=None, forms=\(\)\)\n", found
-    ), found
+    place, told = run([by, "-c", code], env=own).out.decode().split(" ", 1)
+    assert re.fullmatch(r"\S+/it/src/dnorm/libdnorm\.\S+\.so", place), place
+    assert told == "Checked(kind='sp', fits=None, forms=())\n"
 
 
 # What pip makes of a command of the package.

@@ -19,9 +19,9 @@ from collection import FAULTS, OTHERS, make_collection, make_pipes
 from known import CANONICAL, COSTS, ROADS
 from needs import leave_out
 from reading import GRAPHS, canonical, read
-from shared import ROOT, bytes_of, run, text_of, write
+from shared import ROOT, bytes_of, make, run, text_of, write
 from test_calls import BOTH, FORMS, READS, standing_in, told
-from test_folders import make, module
+from test_folders import module
 from test_manifests import ONES, ZEROS
 
 import dnorm
@@ -35,6 +35,7 @@ SEED, ROUNDS = 91, 60
 def records_of(*words: str) -> tuple[list[dict[str, Any]], dict[str, Any]]:
     """Returns the records that a command prints, and its last one."""
     *found, last = [json.loads(it) for it in module(*words).out.splitlines()]
+    assert [*last] == ["summary"]
     return found, last["summary"]
 
 

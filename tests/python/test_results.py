@@ -7,7 +7,6 @@ import gzip
 import io
 import json
 import os
-import pickle
 import re
 import signal
 import sys
@@ -21,9 +20,10 @@ import pytest
 from collection import zstd
 from known import COSTS, FLOWS, ROADS, ROADS_CANON
 from needs import leave_out
-from shared import ROOT, bytes_of, python_with, run, said, write
-from test_calls import BOTH, COMPRESS, READS, standing_in, told
-from test_folders import ENVIRONMENT, make, module, on_terminal
+from shared import ROOT, bytes_of, make, python_with, run, said, write
+from test_calls import BOTH, COMPRESS, PACKAGE, READS, error_of, python, standing_in, told
+from test_folders import ENVIRONMENT, module, on_terminal
+from test_records import records_of
 
 import dnorm
 import dnorm.reader
@@ -73,32 +73,20 @@ def test_causes() -> None:
         for file, wanted, more in rows:
             calls: list[Callable[[dnorm.File], object]] = [dnorm.check, lambda it: dnorm.compare(ROADS, it)]
             for call in calls:
-                try:
-                    call(file)
-                    pytest.fail(f"{text!r} is accepted")
-                except dnorm.Refused as error:
-                    assert (error.text, error.hint) == (wanted, more), f"the cause in {text!r:.60} as {file!r:.20}"
+                error = error_of(lambda: call(file))
+                assert (error.text, error.hint) == (wanted, more), f"the cause in {text!r:.60} as {file!r:.20}"
                 if isinstance(file, io.BytesIO):
                     file.seek(0)
     write("s.ss", b"p aux sp p2p 3\nc 9\nq 2 1\nq 3 +009\nq 9 9\n")
     companions: list[dnorm.File] = ["s.ss", bytes_of("s.ss")]
     for file in companions:
-        try:
-            dnorm.check(ROADS, file)
-        except dnorm.Refused as error:
-            found = (error.number, error.node, error.text, error.hint)
-            assert found == (35, 9, None, "line 4 names it: q 3 +009"), "a companion"
-    first = dnorm.Refused("a.gr", 3, 13, "NodeOutOfRange", None, "a 1 3 7", "NODES 2: nodes count from 1")
-    found_: list[dnorm.DnormError] = [first, dnorm.TimedOut("a.gr", 2.5)]
-    for it in found_:
-        again = pickle.loads(pickle.dumps(it))
-        assert (str(again), vars(again)) == (str(it), vars(it)), f"{it!r}, pickled"
+        error = error_of(lambda: dnorm.check(ROADS, file))
+        found = (error.number, error.node, error.text, error.hint)
+        assert found == (35, 9, None, "line 4 names it: q 3 +009"), "a companion"
     long = b"c\n" * 300_000
     write("t.gr", long + b"x" * 100_000 + b"\n")
-    try:
-        dnorm.check("t.gr")
-    except dnorm.Refused as error:
-        assert (error.line, error.text) == (300_001, "x" * 200), "a line behind others"
+    error = error_of(lambda: dnorm.check("t.gr"))
+    assert (error.line, error.text) == (300_001, "x" * 200), "a line behind others"
     shown = module("check", "--output-format", "github", "t.gr", "missing,:%.gr")
     begin = f"::error file=t.gr,line=300001,title=dnorm%3A 1 BadLine::t.gr:300001: 1 BadLine%0A{dnorm.REFUSALS[1][1]}"
     lines = f"{begin}%0Aline 300001: {'x' * 200}\n"
@@ -119,52 +107,28 @@ PACKED: dict[str, tuple[bytes, str]] = {
 }  # fmt: skip
 
 
-def records_of(*words: str) -> list[dict[str, Any]]:
-    """Returns the JSON objects that a command prints before the one of the counts."""
-    *found, last = [json.loads(it) for it in module(*words).out.splitlines()]
-    assert [*last] == ["summary"]
-    return found
-
-
 def test_hints_of_failures() -> None:
     """The hints of files that are not compressed as their names say, in each format."""
     for name, (data, _hint) in PACKED.items():
         write(name, data)
     names = sorted(PACKED)
+    hints = [PACKED[it][1] for it in names]
     found = module("check", *names)
-    told_ = [it.strip() for it in found.err.decode().splitlines() if it.startswith("    ")]
-    assert told_ == [PACKED[it][1] for it in names], "hints as text"
-    assert [it["hint"] for it in records_of("check", "--json", *names)] == [
-        PACKED[it][1] for it in names
-    ], "hints in JSON"
+    assert [it.strip() for it in found.err.decode().splitlines() if it.startswith("    ")] == hints, "hints as text"
+    assert [it["hint"] for it in records_of("check", "--json", *names)[0]] == hints, "hints in JSON"
     lines = module("check", "--output-format", "github", *names).out.decode().splitlines()
-    assert [it.partition("%0A")[2] for it in lines] == [PACKED[it][1] for it in names], "hints for GitHub"
+    assert [it.partition("%0A")[2] for it in lines] == hints, "hints for GitHub"
     module("check", "--junit", "report", *names)
-    texts = [it.text for it in ElementTree.parse("report").iter("error")]
-    assert texts == [PACKED[it][1] for it in names], "hints in XML"
-    try:
-        dnorm.read("plain.gr.gz")
-    except dnorm.Read as error:
-        assert error.hint == PACKED["plain.gr.gz"][1], "a hint of a call"
-        again = pickle.loads(pickle.dumps(error))
-        assert (str(again), vars(again)) == (str(error), vars(error)), "a hint, pickled"
+    assert [it.text for it in ElementTree.parse("report").iter("error")] == hints, "hints in XML"
+    error = error_of(lambda: dnorm.read("plain.gr.gz"), dnorm.Read)
+    assert error.hint == PACKED["plain.gr.gz"][1], "a hint of a call"
     write("a.ss", b"p aux sp ss 0\n")
     write("a.gr", ROADS)
-    try:
-        dnorm.check("a.ss", "a.gr")
-    except dnorm.Refused as error:
-        wanted = "The graph comes first, an sp text, and then the companion, an ss, p2p or co text"
-        assert (error.number, error.hint) == (36, wanted), "swapped arguments"
+    error = error_of(lambda: dnorm.check("a.ss", "a.gr"))
+    wanted = "The graph comes first, an sp text, and then the companion, an ss, p2p or co text"
+    assert (error.number, error.hint) == (36, wanted), "swapped arguments"
     found = run([f"{ROOT}/dnorm-explain"], b"a.gr: 36 NotKinds\n", env={**os.environ, **ENVIRONMENT})
     assert wanted.encode() in found.out, f"dnorm-explain of 36: {found.out!r}"
-
-
-def test_odd_names_in_csv() -> None:
-    odd = ["c\r.gr", "d\n.gr", 'e",.gr']
-    for it in odd:
-        write(it, ROADS)
-    rows = list(csv.DictReader(io.StringIO(module("list", "--csv", *odd).out.decode(), newline="")))
-    assert [(it["name"], it["kind"]) for it in rows] == [(it, "sp") for it in odd], "odd names in CSV"
 
 
 def test_compressions() -> None:
@@ -260,21 +224,15 @@ def zstandard() -> None:
     write("t.gr.zst", zstd(ROADS))
     write("t.gr", ROADS)
     write("large.gr", "p sp 50000 50000\n" + "".join(f"a {it} 1 {it * it % 9973}\n" for it in range(1, 50_001)))
-    python = python_with("zstandard")
-    if python:
-        found = run([python, "-c", BY_ZSTANDARD], env={**os.environ, **ENVIRONMENT})
-        wanted = "Checked(kind='sp', fits=None, forms=()) True\nTrue\nsp\n"
-        wanted += "zeros.zst: 31 Read (9 zero bytes follow the compressed data)\n"
-        assert (found.out.decode(), found.err, found.status) == (wanted, b"", 0), "zstd"
-        make({"later/compression/__init__.py": b"", "later/compression/zstd.py": OF_3_14.encode()})
-        path = f"{os.getcwd()}/later:{ENVIRONMENT['PYTHONPATH']}"
-        found = run([python, "-c", BY_ZSTANDARD], env={**os.environ, **ENVIRONMENT, "PYTHONPATH": path})
-        assert (found.out.decode(), found.err, found.status) == (wanted, b"", 0), "zstd of 3.14"
-    else:
-        leave_out("the module zstandard")
-    code = "import sys; sys.modules['zstandard'] = None; import dnorm; dnorm.check('t.gr.zst')"
-    found = run([sys.executable, "-c", code], env={**os.environ, **ENVIRONMENT})
+    wanted = "Checked(kind='sp', fits=None, forms=()) True\nTrue\nsp\n"
+    wanted += "zeros.zst: 31 Read (9 zero bytes follow the compressed data)\n"
+    by = python_with("zstandard") or leave_out("the module zstandard")
+    make({"later/compression/__init__.py": b"", "later/compression/zstd.py": OF_3_14})
+    for path in [PACKAGE, f"{os.getcwd()}/later:{PACKAGE}"]:
+        found = run([by, "-c", BY_ZSTANDARD], env={**os.environ, **ENVIRONMENT, "PYTHONPATH": path})
+        assert found == said(wanted), f"zstd by {path}"
     if sys.version_info < (3, 14):
+        found = python("import sys; sys.modules['zstandard'] = None; import dnorm; dnorm.check('t.gr.zst')")
         line = found.err.decode().splitlines()[-1]
         reason = "t.gr.zst: 31 Read (zstd needs Python 3.14 or the module zstandard)"
         assert line == f"dnorm.errors.Read: {reason}", "zstd without a module"
@@ -306,10 +264,8 @@ def test_names_given() -> None:
     ]:
         assert module(*words.split()) == said("", f"{name}: 31 Read ({reason})\n", 4), words
     found = module("check", "-", given=b"\nb.min\n")
-    assert (found.out.decode().splitlines()[0], found.status) == (
-        ": 31 Read (No such file or directory)",
-        4,
-    ), "a name without a character"
+    is_told = found.out.startswith(b": 31 Read (No such file or directory)\n")
+    assert (is_told, found.status) == (True, 4), "a name without a character"
 
 
 def test_time_limits(stand_in: str) -> None:
@@ -344,12 +300,8 @@ def test_time_limits(stand_in: str) -> None:
     except TimeoutError as error:
         assert str(error) == "mine", "an alarm while a FIFO is opened"
     signal.signal(signal.SIGALRM, kept)
-    in_time = [
-        dnorm.check("t.gr", timeout=60).kind,
-        dnorm.canon("t.gr", timeout=60),
-        dnorm.read("t.gr", timeout=60).kind,
-    ]
-    assert in_time == ["sp", ROADS_CANON, "sp"], "calls in time"
+    kinds = [dnorm.check("t.gr", timeout=60).kind, dnorm.read("t.gr", timeout=60).kind]
+    assert (dnorm.canon("t.gr", timeout=60), kinds) == (ROADS_CANON, ["sp", "sp"]), "calls in time"
     found = module("check", "--timeout", "0.5", "t.gr", "pipe.gr")
     lines = "pipe.gr: took more than 0.5 seconds\n"
     assert found == said(f"{lines}t.gr: accepted sp\n", f"{lines}1 accepted, 0 refused, 1 failed\n", 4), "--timeout"
@@ -451,18 +403,12 @@ def test_folders_of_manifests() -> None:
     found = module("manifest", "--verify", "list", "-q", "--exclude", "bad.gr", "set")
     lines = lines.replace("set/c.gr: same\n", "") + "set/below/new.gr: not listed\n"
     assert found == said(lines, f"{count}, 1 not listed, 1 other file, 1 excluded\n", 1), "-q"
-    records = records_of("manifest", "--verify", "list", "--json", "set", "none")
-    statuses = {
-        "a.gr": "gone",
-        "b.min": "differs",
-        "c.gr": "same",
-        "bad.gr": "not listed",
-        "below/new.gr": "not listed",
-    }
-    wanted_ = {"none": "failed"} | {f"set/{it}": status for it, status in statuses.items()}
+    records = records_of("manifest", "--verify", "list", "--json", "set", "none")[0]
+    wanted_ = {"set/a.gr": "gone", "set/b.min": "differs", "set/c.gr": "same", "none": "failed"}
+    wanted_ |= dict.fromkeys(["set/bad.gr", "set/below/new.gr"], "not listed")
     assert {it["name"]: it["status"] for it in records} == wanted_, "statuses in JSON"
     assert records[0] == {"name": "set/a.gr", "status": "gone", "checksum": sums["set/a.gr"], "form": 1}, "a record"
-    records = records_of("manifest", "--json", "--form", "2", "set")
+    records = records_of("manifest", "--json", "--form", "2", "set")[0]
     told_ = [f"{it['name']} {it['status']}" for it in records]
     names = ["set/b.min accepted", "set/bad.gr refused", "set/below/new.gr accepted", "set/c.gr accepted"]
     assert told_ == names, "a manifest in JSON"
@@ -478,7 +424,7 @@ def test_links() -> None:
     found = module("same", "set")
     assert found == said("set/b.gr\nset/sub/c.gr\n", "6 accepted, 0 refused, 0 failed, 1 group, 3 links\n", 0), "same"
     wanted = {"checksum": dnorm.checksum(ROADS), "names": ["set/b.gr", "set/sub/c.gr"]}
-    assert records_of("same", "--json", "set") == [wanted], "same --json"
+    assert records_of("same", "--json", "set")[0] == [wanted], "same --json"
 
 
 def test_on_terminal() -> None:
@@ -531,7 +477,7 @@ def test_lists() -> None:
         lines += f"set/{name}: {kind}\n{below}"
     count = "8 listed, 1 refused, 0 failed\n"
     assert module("list", "set") == said(lines, f"set/x.gr:1: 1 BadLine\n{count}", 2), "list"
-    records = records_of("list", "--json", "set")
+    records = records_of("list", "--json", "set")[0]
     names = [*((f"set/{name}", sums[name]) for name in rows), ("set/x.gr", None)]
     assert [(it["name"], it["checksum"]) for it in records] == names, "list --json"
     wanted = {"name": "set/c.max", "kind": "max", "bytes": len(LISTED["c.max"][0]), "nodes": 5, "declared": 3}
@@ -544,7 +490,7 @@ def test_lists() -> None:
     assert [(it["name"], it["checksum"]) for it in table] == [(f"set/{it}", sums[it]) for it in rows], "list --csv"
     told_ = [table[1][it] for it in ["kind", "nodes", "cost_least", "cost_bits", "length_bits", "capacity_times_cost"]]
     assert told_ == ["min", "4", "-2147483649", "32", "", str((2**63 - 1) * 2147483649 + 2)], "a row"
-    (it,) = records_of("list", "--form", "2", "--json", "set/b.min")
+    (it,) = records_of("list", "--form", "2", "--json", "set/b.min")[0]
     assert it["checksum"] == dnorm.checksum(LARGE, 2), "list --form 2"
 
 

@@ -134,11 +134,8 @@ def same_networks(chance: random.Random) -> None:
     texts = {dnorm.Sp: Text("sp", nodes), dnorm.Max: Text("max", nodes, terminals={"s": 2, "t": 1})}
     texts[dnorm.Min] = Text("min", nodes, flows=dict.fromkeys(range(1, nodes + 1), 0))
     for _ in range(chance.choice([0, 1, 5, 20])):
-        tail, head, low, capacity = (
-            *chance.choices(range(1, nodes + 1), k=2),
-            chance.choice([0, 1]),
-            chance.randint(0, 9),
-        )
+        tail, head = chance.choices(range(1, nodes + 1), k=2)
+        low, capacity = chance.choice([0, 1]), chance.randint(0, 9)
         data = {"capacity": capacity, "weight": chance.randint(0, 5)}
         graph.add_edge(tail, head, **data, **({"low": low} if low else {}))
         texts[dnorm.Sp].items.append((tail, head, data["weight"]))

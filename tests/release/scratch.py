@@ -7,7 +7,7 @@ import sys
 from typing import NamedTuple
 
 from needs import leave_out
-from shared import ROOT, Answer, bytes_of, links_listed, listed, run, text_of, write
+from shared import OF_GIT, ROOT, Answer, bytes_of, links_listed, listed, run, text_of, write
 
 OUT = "crates/dnorm/out"
 # What released/ has, besides its page.
@@ -183,8 +183,7 @@ class Place:
 
     def git(self, *words: str) -> None:
         who = {f"GIT_{one}_{it}": value for one in ["AUTHOR", "COMMITTER"] for it, value in WHO.items()}
-        alone = {"GIT_CONFIG_GLOBAL": "/dev/null", "GIT_CONFIG_NOSYSTEM": "1"}
-        done = run(["git", *words], cwd=self.folder, env={**os.environ, **who, **alone})
+        done = run(["git", *words], cwd=self.folder, env={**os.environ, **OF_GIT, **who})
         if done.status:
             raise OSError(f"git {words}: {done.err!r}")
 

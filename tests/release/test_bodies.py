@@ -15,7 +15,7 @@ from collections.abc import Iterator
 
 import pytest
 from needs import need
-from shared import LIMIT, ROOT, Answer, bytes_of, pipe, text_of, write
+from shared import LIMIT, ROOT, Answer, bytes_of, make, pipe, text_of, write
 
 # How long a run of the script may take, in seconds.
 MOST = 600
@@ -107,9 +107,7 @@ class Tried:
             "tools/tally.py",
         ]:
             shutil.copy(f"{ROOT}/{path}", f"{top}/{path}")
-        for path, text in CRATE.items():
-            os.makedirs(os.path.dirname(f"{top}/{path}"), exist_ok=True)
-            write(f"{top}/{path}", text)
+        make({f"{top}/{path}": text for path, text in CRATE.items()})
         self.words = [f"{top}/tools/wrong-bodies", "--checked"]
 
     def edit(self, *names: str) -> None:

@@ -23,7 +23,7 @@ from typing import Any
 import pytest
 from known import ROADS, ROADS_CANON
 from needs import leave_out, need, pass_over
-from shared import LIMIT, ROOT, Answer, bytes_of, own_folder, run, said, text_of, write
+from shared import LIMIT, ROOT, Answer, bytes_of, make, own_folder, run, said, text_of, write
 
 pytestmark = pytest.mark.whole
 # What a scratch repository has of this one.
@@ -69,19 +69,17 @@ class Clone:
             "crates/dn_c/src/lib.rt": "// a source\n",
             "share/installed.txt": "".join(f"{it}\n" for it in INSTALLED),
             "docs/costs.txt": "",
-            "tools/generate": "#!/bin/sh\n",
         }.items():
             self.write(name, text)
-        os.chmod(f"{folder}/tools/generate", 0o755)
+        self.write("tools/generate", "#!/bin/sh\n", 0o755)
         os.makedirs(f"{self.released}/x86_64")
         shutil.copy(tested, f"{self.released}/x86_64/dnorm")
         for it in LIBRARIES:
             self.pack(it, it.encode())
         self.tell()
 
-    def write(self, name: str, text: str | bytes) -> None:
-        os.makedirs(os.path.dirname(f"{self.folder}/{name}"), exist_ok=True)
-        write(f"{self.folder}/{name}", text)
+    def write(self, name: str, text: str | bytes, mode: int | None = None) -> None:
+        make({f"{self.folder}/{name}": text}, mode)
 
     def link(self, name: str, target: str) -> None:
         os.makedirs(os.path.dirname(f"{self.folder}/{name}"), exist_ok=True)
@@ -132,6 +130,13 @@ def stops(what: str, clone: Clone, line: str, path: str = WITHOUT_RT) -> None:
     assert left == [], f"what is left, {what}"
 
 
+def runs_built(clone: Clone, sources: str | bytes) -> None:
+    """Tests that ./dnorm runs a program that was built from these sources."""
+    clone.write(f"{OUT}/dnorm", "#!/bin/sh\necho built\n", 0o755)
+    clone.write(f"{OUT}/built", sources)
+    assert clone.run("dnorm") == said("built\n"), "./dnorm, a built program"
+
+
 def test_takes(clone: Clone) -> None:
     """When ./dnorm takes the released program."""
     source, text = "crates/dnorm/src/main.rt", "// a source\n"
@@ -169,10 +174,7 @@ def test_takes(clone: Clone) -> None:
     stops("a source more", clone, NO_RT)
     os.remove(f"{clone.folder}/crates/dnorm/src/more.rt")
     runs("a source less, as before", clone)
-    clone.write(f"{OUT}/dnorm", "#!/bin/sh\necho built\n")
-    os.chmod(f"{clone.folder}/{OUT}/dnorm", 0o755)
-    clone.write(f"{OUT}/built", clone.run("tools/source-sum", "--list", "program").out)
-    assert clone.run("dnorm") == said("built\n"), "./dnorm, a built program"
+    runs_built(clone, clone.run("tools/source-sum", "--list", "program").out)
     clone.write(source, text)
     runs("a built program that is older than a source", clone)
     shutil.rmtree(f"{clone.folder}/{OUT}")
@@ -207,8 +209,7 @@ OLD_FIND = '#!/bin/sh\ncase $* in *-files0-from*) exit 1 ;; esac\nexec /usr/bin/
 def test_notices(clone: Clone, what: str) -> None:
     """Which changes ./dnorm notices after a call that has checked all: those of each file that decides."""
     change, back = CHANGES[what]
-    clone.write("bin/find", OLD_FIND)
-    os.chmod(f"{clone.folder}/bin/find", 0o755)
+    clone.write("bin/find", OLD_FIND, 0o755)
     for name in DECIDING:
         for path in [WITHOUT_RT, f"{clone.folder}/bin:{WITHOUT_RT}"]:
             runs("before", clone, path)
@@ -274,9 +275,7 @@ def test_last_answer(clone: Clone) -> None:
     clone.write(source, "// another\n")
     runs("a source that git does not know yet", clone)
     assert clone.run("tools/program").status == 125, "tools/program looks at each source"
-    os.mkdir("bin")
-    write("bin/rt", "#!/bin/sh\nexit 1\n")
-    os.chmod("bin/rt", 0o755)
+    make({"bin/rt": "#!/bin/sh\nexit 1\n"}, 0o755)
     found = clone.run("dnorm", given=ROADS, path=f"{os.getcwd()}/bin:{WITHOUT_RT}")
     assert (found.out, found.status) == (b"", 125), "a source, where rt can build"
     git.run("add", source)
@@ -290,10 +289,7 @@ def test_last_answer(clone: Clone) -> None:
         stops(f"another {name}", clone, CHANGED)
         clone.write(name, kept)
         runs(f"{name} as it was", clone)
-    clone.write(f"{OUT}/dnorm", "#!/bin/sh\necho built\n")
-    os.chmod(f"{clone.folder}/{OUT}/dnorm", 0o755)
-    clone.write(f"{OUT}/built", "".join(f"{it}\0" for it in ["crates.txt", source]))
-    assert clone.run("dnorm") == said("built\n"), "./dnorm, a built program"
+    runs_built(clone, "".join(f"{it}\0" for it in ["crates.txt", source]))
 
 
 @pytest.mark.alone
@@ -411,8 +407,7 @@ def test_kits(clone: Clone) -> None:
         f"echo '{KIT} and more'": f"{KIT} and more",
     }
     for text, found in said.items():
-        clone.write("bin/rt", f"#!/bin/sh\n{text}\n")
-        os.chmod(f"{clone.folder}/bin/rt", 0o755)
+        clone.write("bin/rt", f"#!/bin/sh\n{text}\n", 0o755)
         wrong = f"{clone.folder}/bin/rt is another program or another version: `rt version` prints '{found}'"
         stops(f"rt: {text}", clone, NO_RT.replace("there is no rt on the PATH", wrong), path)
     clone.write("bin/rt", f"#!/bin/sh\necho '{KIT}'\n")
@@ -554,10 +549,7 @@ def scratch_check(folder: str) -> dict[str, str]:
     """Makes ./check with what stands for all that it calls, and returns its environment."""
     shutil.copy(f"{ROOT}/check", "check")
     os.mkdir("temporary")
-    for it in CALLED:
-        os.makedirs(os.path.dirname(it), exist_ok=True)
-        write(it, STANDS)
-        os.chmod(it, 0o755)
+    make(dict.fromkeys(CALLED, STANDS), 0o755)
     os.makedirs("crates/dnorm/out")
     own = {"PATH": f"{folder}/bin:{os.environ['PATH']}", "LOG": f"{folder}/log", "TMPDIR": f"{folder}/temporary"}
     return {**os.environ, **own, "STAYS": "", "IGNORED": "", "RT_JOBS": "1", "CI": ""}

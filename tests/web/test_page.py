@@ -154,10 +154,8 @@ def test_keys(page: Page) -> None:
     assert "towns.gr has a fault at line 3" in page.answer()
     page.browser.press("TAB", "ENTER")
     found = page.answer()
-    assert (
-        found.startswith("The files differ\nThe arcs from 1 to 2 differ first, at amount ")
-        and "left.min is accepted" in found
-    )
+    assert found.startswith("The files differ\nThe arcs from 1 to 2 differ first, at amount ")
+    assert "left.min is accepted" in found
     assert page.browser.js("return document.querySelectorAll('svg').length") == 2
 
 
@@ -251,9 +249,7 @@ def test_alone(page: Page) -> None:
         told = page.browser.complaints()
         assert told and all("Content Security Policy" in it or "127.0.0.1:9" in it for it in told), told
     text = bytes_of(page.url.removeprefix("file://"))
-    assert text.count(b"http") == text.count(b"http://www.w3.org/2000/svg") + text.count(b"http-equiv") + text.count(
-        b"by http"
-    )
+    assert text.count(b"http") == sum(map(text.count, [b"http://www.w3.org/2000/svg", b"http-equiv", b"by http"]))
 
 
 def test_readable(page: Page) -> None:
@@ -266,6 +262,5 @@ def test_readable(page: Page) -> None:
     page.browser.js("document.body.style.width = ''")
     page.click("Copy all as text")
     page.until("return element('copied').textContent !== ''")
-    assert page.browser.js(
-        "return element('text').value === asText() && element('text').value.startsWith('The files differ')"
-    )
+    assert page.browser.js("return element('text').value === asText()")
+    assert page.browser.js("return element('text').value.startsWith('The files differ')")

@@ -12,7 +12,7 @@ from typing import Any
 import pytest
 from browsers import Chromium, Firefox, browsing
 from known import COSTS, ROADS
-from shared import ROOT, run, said, text_of, write
+from shared import ROOT, make, run, said, text_of, write
 from test_page import NAMELESS
 
 from dnorm.commands.look import page_of_folder
@@ -36,13 +36,6 @@ return performance.now() - began;"""
 NAMES = ["<script>document.title='x'<", "<img src=x onerror=alert(1)>.gr", "@DATA@ @LOOK@.gr", "a\nb.gr", "\u2028é.gr"]
 NAMES += [os.fsdecode(b"\xff\xfe.gr"), "\x1b[31m.gr", "&amp;\"'.gr", "x" * 240 + ".gr"]
 NAMES[0] += "/script>.gr"
-
-
-def make(texts: dict[str, bytes]) -> None:
-    """Makes files with these names and texts, and their folders."""
-    for name, text in texts.items():
-        os.makedirs(os.path.dirname(name), exist_ok=True)
-        write(name, text)
 
 
 class Shown(html.parser.HTMLParser):
