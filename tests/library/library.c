@@ -2,8 +2,8 @@
 
        library orders N     every order of N calls out of eleven, on two handles
        library memory       each allocation fails once; prints how many there are
-       library threads      a handle goes through threads, and each of four threads has one
-       library readers N    each of three threads reads one instance N times; prints how many answers are wrong
+       library readers N    a handle goes through threads, and each of three threads reads its instance N times, and one
+                            of its own; prints how many answers are wrong
        library nulls        pointers that are null where there is no room, and a handle that is its own text
        library stack        each call in a thread with a small stack, for the text on standard input
 
@@ -13,7 +13,7 @@
 #include <string.h>
 
 /* STACK is that of the fifth rule of dnorm.h, in bytes. */
-enum { CALLS = 11, ROUNDS = 200, STACK = 32768 };
+enum { CALLS = 11, STACK = 32768 };
 
 static const char good[] = "p min 4 3\nn 1 2\nn 2 -2\na 1 2 0 5 7\na 2 3 1 5 7\na 1 2 1 5 6\n";
 static const char canon[] = "p min 4 5\nn 1 2\nn 2 -2\na 1 2 1 1 6\na 1 2 0 4 6\na 1 2 0 5 7\n"
@@ -21,7 +21,8 @@ static const char canon[] = "p min 4 5\nn 1 2\nn 2 -2\na 1 2 1 1 6\na 1 2 0 4 6\
 static const char bad[] = "p sp 1 1\nq\n";
 
 /* The linker passes calls of malloc, realloc and free through these, which count what is not yet freed. */
-static __thread long live, left = -1;
+static __thread long left = -1;
+static long live;
 void *__real_malloc(size_t);
 void *__real_realloc(void *, size_t);
 void __real_free(void *);
@@ -32,18 +33,18 @@ static int fails(void) {
 
 void *__wrap_malloc(size_t size) {
     void *new = fails() ? 0 : __real_malloc(size);
-    live += new != 0;
+    if (new) __sync_fetch_and_add(&live, 1);
     return new;
 }
 
 void *__wrap_realloc(void *old, size_t size) {
     void *new = fails() ? 0 : __real_realloc(old, size);
-    live += !old && new;
+    if (!old && new) __sync_fetch_and_add(&live, 1);
     return new;
 }
 
 void __wrap_free(void *old) {
-    live -= old != 0;
+    if (old) __sync_fetch_and_sub(&live, 1);
     __real_free(old);
 }
 
@@ -128,39 +129,6 @@ static void *finish(void *graph) {
     return 0;
 }
 
-static void *read_many(void *sum) {
-    for (int i = 0; i < ROUNDS; i++) {
-        dnorm graph = DNORM_NONE, text = DNORM_NONE;
-        dnorm_arc arcs[8];
-        dnorm_place place = DNORM_FIRST;
-        make_text(&graph, &text);
-        size_t count = dnorm_next(&graph, 1, &place, arcs, 8).count;
-        for (size_t at = 0; at < count; at++) *(long long *)sum += arcs[at].b;
-        dnorm_free(&text);
-        dnorm_free(&graph);
-    }
-    return 0;
-}
-
-static int threads(void) {
-    pthread_t ids[4];
-    dnorm graph = DNORM_NONE;
-    dnorm_begin(&graph);
-    void *(*steps[])(void *) = {feed_good, finish};
-    for (int i = 0; i < 2; i++) {
-        pthread_create(&ids[0], 0, steps[i], &graph);
-        pthread_join(ids[0], 0);
-    }
-    int kind = dnorm_facts(&graph).kind;
-    dnorm_free(&graph);
-    long long sums[4] = {0};
-    for (int i = 0; i < 4; i++) pthread_create(&ids[i], 0, read_many, &sums[i]);
-    for (int i = 0; i < 4; i++) pthread_join(ids[i], 0);
-    printf("kind %d", kind);
-    for (int i = 0; i < 4; i++) printf(" %lld", sums[i] / ROUNDS);
-    return puts(""), 0;
-}
-
 /* An instance and another handle, which threads share, and what one of them found in them. */
 typedef struct readings {
     const dnorm *graph, *text;
@@ -187,8 +155,12 @@ static int is_copied(const dnorm *graph, dnorm *text) {
 static void *read_both(void *given) {
     readings *it = given;
     for (long i = 0; i < it->times; i++) {
-        dnorm text = DNORM_NONE;
+        dnorm text = DNORM_NONE, own = DNORM_NONE, own_text = DNORM_NONE;
         int is_right = dnorm_facts(it->graph).pairs == 2 && dnorm_arc_count(it->graph, 2).count == 3;
+        is_right &= make_text(&own, &own_text).code == DNORM_FINE && is_copied(&own, &own_text);
+        is_right &= dnorm_compare(it->graph, &own).what == DNORM_SAME;
+        dnorm_free(&own_text);
+        dnorm_free(&own);
         is_right &= dnorm_compare(it->graph, it->graph).what == DNORM_SAME;
         is_right &= dnorm_compare(it->graph, it->text).what == DNORM_NOT_BOTH;
         is_right &= dnorm_fits(it->graph, it->graph).code == DNORM_NOT_KINDS;
@@ -196,14 +168,19 @@ static void *read_both(void *given) {
         dnorm_free(&text);
         it->wrong += !is_right;
     }
-    it->wrong += live != 0;
     return 0;
 }
 
 static int readers(long times) {
     pthread_t ids[3];
     dnorm graph = DNORM_NONE, text = DNORM_NONE;
-    make_text(&graph, &text);
+    void *(*const steps[])(void *) = {feed_good, finish};
+    dnorm_begin(&graph);
+    for (int i = 0; i < 2; i++) {
+        pthread_create(&ids[0], 0, steps[i], &graph);
+        pthread_join(ids[0], 0);
+    }
+    dnorm_canon(&graph, 1, &text);
     readings all[3] = {{&graph, &text, times, 0}, {&graph, &text, times, 0}, {&graph, &text, times, 0}};
     for (int i = 0; i < 3; i++) pthread_create(&ids[i], 0, read_both, &all[i]);
     for (int i = 0; i < 3; i++) pthread_join(ids[i], 0);
@@ -304,7 +281,6 @@ int main(int count, char **words) {
     const char *mode = count > 1 ? words[1] : "";
     if (!strcmp(mode, "orders") && count > 2) return orders(atoi(words[2]));
     if (!strcmp(mode, "memory")) return memory();
-    if (!strcmp(mode, "threads")) return threads();
     if (!strcmp(mode, "readers") && count > 2) return readers(atol(words[2]));
     if (!strcmp(mode, "nulls")) return nulls();
     if (!strcmp(mode, "stack")) return stack();

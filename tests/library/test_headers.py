@@ -163,9 +163,8 @@ SOLVED = [
 # What library.c does: its arguments, what it prints, and what watches it.
 CALLS = [
     ("orders 5", f"{11**5} orders\n", []), ("orders 3", f"{11**3} orders\n", ["memcheck"]),
-    ("memory", "", ["memcheck"]), ("threads", "kind 1 15 15 15 15\n", ["memcheck", "helgrind"]),
+    ("memory", "", ["memcheck"]), ("nulls", "right\n", ["memcheck"]),
     ("readers 100000", "0 wrong\n", []), ("readers 200", "0 wrong\n", ["memcheck", "helgrind"]),
-    ("nulls", "right\n", ["memcheck"]),
 ]  # fmt: skip
 # Headers, by compilers and standards, and what stands beside them.
 COMPILED = [

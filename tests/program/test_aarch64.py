@@ -16,17 +16,16 @@ import os
 import re
 import shutil
 import subprocess
-import sys
 from collections.abc import Sequence
 
 import pytest
 from known import ROADS
-from needs import leave_out, need, pass_over
+from needs import leave_out, need, pass_over, passes
 from shared import ROOT, bytes_of, run, said, text_of, write
 
 pytestmark = pytest.mark.whole
 BUILT = f"{ROOT}/crates/dnorm/out/aarch64/dnorm"
-RELEASED = f"{ROOT}/released"
+RELEASED, TESTS = f"{ROOT}/released", f"{ROOT}/tests"
 COMPILER, QEMU, SYSTEM = "aarch64-linux-gnu-gcc", "qemu-aarch64", "/usr/aarch64-linux-gnu"
 WARNINGS = ["-O2", "-std=c11", "-Wall", "-Wextra", "-Wpedantic", "-Werror", "-pthread"]
 # The number of a processor in an ELF file, and what it is for aarch64.
@@ -89,8 +88,7 @@ def program_here(folder: str) -> str:
     if os.path.exists(f"{RELEASED}/aarch64/dnorm.gz"):
         wanted = re.search(r"^sources of the program: (\w+)$", text_of(f"{RELEASED}/buildinfo"), re.M)
         if wanted and run([f"{ROOT}/tools/source-sum", "program"]).out.decode().strip() == wanted[1]:
-            write(f"{folder}/released", gzip.decompress(bytes_of(f"{RELEASED}/aarch64/dnorm.gz")))
-            os.chmod(f"{folder}/released", 0o755)
+            write(f"{folder}/released", gzip.decompress(bytes_of(f"{RELEASED}/aarch64/dnorm.gz")), 0o755)
             return f"{folder}/released"
     return BUILT
 
@@ -140,28 +138,12 @@ def at_length(tested: str, emulated: Emulated) -> Emulated:
     return emulated
 
 
-def passes(
-    program: str,
-    name: str,
-    options: Sequence[str] = (),
-    top: str = f"{ROOT}/tests",
-    python: Sequence[str] = (),
-    **own: str,
-) -> None:
-    """Runs tests on a program, without those that measure times. What they skip, they skip on purpose."""
-    words = [*(python or [sys.executable]), "-m", "pytest", "-q", "-m", "not alone", "-pno:cacheprovider", "-pno:xdist"]
-    words += [f"--rootdir={top}", f"{top}/{name}", *options]
-    environment = {it: value for it, value in os.environ.items() if it != "CI"} | own
-    ran = run([*words, f"--program={program}"], limit=MOST, env=environment)
-    assert ran.status == 0, ran.out.decode()
-
-
 def test_answers(emulated: Emulated) -> None:
-    passes(emulated.program, "program/test_answers.py")
+    passes(emulated.program, f"{TESTS}/program/test_answers.py", CI="", limit=MOST)
 
 
 def test_conformance(emulated: Emulated) -> None:
-    # The suite prints a line on calls that come near its limit, as those of a busy machine may.
+    # A call that is emulated on a busy machine may take long.
     words = [f"{ROOT}/share/conformance/run.py", "--level", "compare", "--limit", str(MOST)]
     ran = run([*words, emulated.program], limit=MOST)
     assert SUITE.fullmatch(ran.out.decode()) and ran.status == 0, (ran.out + ran.err).decode()
@@ -185,7 +167,7 @@ def test_c_functions(emulated: Emulated, folder: str, build: str) -> None:
 
 
 def test_random_texts(at_length: Emulated) -> None:
-    passes(at_length.program, "program/test_search.py", ["--quick"])
+    passes(at_length.program, f"{TESTS}/program/test_search.py", "--quick", CI="", limit=MOST)
 
 
 @pytest.mark.parametrize("name, every", [("answers", 1), ("memory", 5)])
@@ -197,16 +179,15 @@ def test_preloaded(at_length: Emulated, folder: str, name: str, every: int) -> N
         pass_over(object)
     dynamic = compiled(f"{folder}/dynamic", [COMPILER, object, functions])
     os.mkdir("tools")
-    write("tools/cc", f'#!/bin/sh\nexec {COMPILER} "$@"\n')
+    write("tools/cc", f'#!/bin/sh\nexec {COMPILER} "$@"\n', 0o755)
     # A file of another kind than ELF may be a program that loads libraries.
-    write("tools/dnorm", f"#!{at_length.wrapper('wrapper', dynamic, 2)}\n")
-    for it in os.listdir("tools"):
-        os.chmod(f"tools/{it}", 0o755)
+    write("tools/dnorm", f"#!{at_length.wrapper('wrapper', dynamic, 2)}\n", 0o755)
     # The built test of the libraries is for this machine. In another folder than the repository, none is found.
-    for it in ["tests", "examples/refused"]:
+    for it in ["tests", "examples/refused", "share/conformance"]:
         shutil.copytree(f"{ROOT}/{it}", it)
     path = f"{folder}/tools:{os.environ['PATH']}"
-    passes(f"{folder}/tools/dnorm", f"program/test_{name}.py", [f"--every={every}"], f"{folder}/tests", PATH=path)
+    words = [f"{folder}/tests/program/test_{name}.py", f"--every={every}"]
+    passes(f"{folder}/tools/dnorm", *words, CI="", limit=MOST, PATH=path)
 
 
 def test_library_in_c(at_length: Emulated, folder: str) -> None:
@@ -217,7 +198,6 @@ def test_library_in_c(at_length: Emulated, folder: str) -> None:
     assert run([*tested, "orders", "4"]) == said(f"{11**4} orders\n")
     number = run([*tested, "memory"])
     assert re.fullmatch(rb"[1-9]\d* allocations\n", number.out) and not number.status
-    assert run([*tested, "threads"]) == said("kind 1 15 15 15 15\n")
     assert run([*tested, "readers", "100"]) == said("0 wrong\n")
     assert run([*tested, "nulls"]) == said("right\n")
 
@@ -228,8 +208,8 @@ def test_library_in_python(at_length: Emulated, folder: str) -> None:
     if lack := fetched(root, f"{folder}/apt", ["python3", "python3-pytest", "python3-hypothesis"]):
         pass_over(lack)
     python = [at_length.qemu, "-L", root, f"{root}/usr/bin/python3"]
-    own = {"DNORM_TESTED_LIBRARY": library, "PYTHONPATH": f"{root}/usr/lib/python3/dist-packages"}
-    passes(at_length.program, "library/test_library.py", python=python, **own)
+    own = {"DNORM_TESTED_LIBRARY": library, "PYTHONPATH": f"{root}/usr/lib/python3/dist-packages", "CI": ""}
+    passes(at_length.program, f"{TESTS}/library/test_library.py", python=python, limit=MOST, **own)
     own = {**os.environ, "PYTHONPATH": f"{ROOT}/python/src", "PYTHONDONTWRITEBYTECODE": "1", "DNORM_LIBRARY": library}
     assert run([*python, "-c", BY_PACKAGE], ROADS, env=own) == said(f"{library} 5\n")
 
