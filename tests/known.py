@@ -66,9 +66,13 @@ def in_both_orders() -> Iterator[tuple[bytes, bytes, bytes, bytes]]:
         yield left, right, there, back
 
 
-# Parallel arcs, both directions, a self-loop and a negative length; and the canonical text.
+# Parallel arcs, both directions, a self-loop and a negative length; the canonical text; and what `show` prints.
 ROADS = b"p sp 3 7\na 1 2 7\na 1 2 3\na 2 1 4\na 1 2 3\na 2 2 0\na 3 1 -5\na 2 3 9\n"
 ROADS_CANON = b"p sp 3 5\na 1 2 3\na 2 1 4\na 2 2 0\na 2 3 9\na 3 1 -5\n"
+ROADS_SHOWN = (
+    b"kind sp\nnodes 3\nlines 7\npairs 5\npair 1 2 length 3\npair 2 1 length 4\npair 2 2 length 0\n"
+    b"pair 2 3 length 9\npair 3 1 length -5\n"
+)
 # An arc of capacity 0, two parallel arcs, and the sink before the source.
 CAPACITIES = b"p max 3 4\nn 3 t\nn 1 s\na 2 3 0\na 1 2 4\na 1 3 2\na 1 2 5\n"
 # Forced units and free capacity; and the canonical texts in form 1 and in form 2.
@@ -78,17 +82,21 @@ COSTS_TWO = b"p min 2 4\na 1 2 0 2 0\na 1 2 1 5 1\na 1 2 1 1 2\na 1 2 0 1 3\n"
 # A supply, a demand and a comment; and the canonical text.
 FLOWS = b"c sample\np min 4 5\nn 1 4\nn 4 -4\na 1 2 0 4 2\na 1 3 0 2 2\na 2 3 0 2 1\na 2 4 0 3 3\na 3 4 0 5 1\n"
 FLOWS_CANON = b"p min 4 5\nn 1 4\nn 4 -4\na 1 2 0 4 2\na 1 3 0 2 2\na 2 3 0 2 1\na 2 4 0 3 3\na 3 4 0 5 1\n"
+# Two arcs with the greatest capacity, and the least and the greatest cost; and what `show` prints.
+WIDE = (
+    b"p min 2 2\na 1 2 4611686018427387904 4611686018427387904 -9223372036854775808\n"
+    b"a 1 2 4611686018427387903 4611686018427387903 9223372036854775807\n"
+)
+WIDE_SHOWN = (
+    b"kind min\nnodes 2\nlines 2\nsupplies 0\npairs 1\n"
+    b"pair 1 2 forced 9223372036854775807 cost -13835058055282163711 steps 0\n"
+)
 # Capacities of one pair that sum past the limit.
 FULL = next(of(it)[0] for it in CASES if it["id"] == "sum-above-max")
 
 # Runs of `show`. Standard input is the text that is named `-`.
 SHOWN = runs(
-    (
-        "show g.gr",
-        ROADS,
-        b"kind sp\nnodes 3\nlines 7\npairs 5\npair 1 2 length 3\npair 2 1 length 4\npair 2 2 length 0\n"
-        b"pair 2 3 length 9\npair 3 1 length -5\n",
-    ),
+    ("show g.gr", ROADS, ROADS_SHOWN),
     (
         "show n.max",
         CAPACITIES,
@@ -114,13 +122,7 @@ SHOWN = runs(
         b"p min 2 2\nn 2 0\na 1 2 0 0 5\na 2 1 0 3 1\n",
         b"kind min\nnodes 2\nlines 2\nsupplies 0\npairs 1\npair 2 1 forced 0 cost 0 steps 1\n",
     ),
-    (
-        "show x.min",
-        b"p min 2 2\na 1 2 4611686018427387904 4611686018427387904 -9223372036854775808\n"
-        b"a 1 2 4611686018427387903 4611686018427387903 9223372036854775807\n",
-        b"kind min\nnodes 2\nlines 2\nsupplies 0\npairs 1\n"
-        b"pair 1 2 forced 9223372036854775807 cost -13835058055282163711 steps 0\n",
-    ),
+    ("show x.min", WIDE, WIDE_SHOWN),
     (
         "show y.min",
         b"p min 9223372036854775807 1\n"
@@ -198,6 +200,11 @@ PAIRS = runs(
     ("compare l r", (b"p aux sp co 1\nv 2 0 0\n", b"p aux sp co 1\nv 2 0 0\n"), b"same\n"),
 )
 
+# Wrong command lines, in a folder with a text g.gr.
+WRONG_WORDS = ["canon", "canon g.gr g.gr", "canon --form 3 g.gr", "canon --form=1 --form=2 g.gr", "canon -x"]
+WRONG_WORDS += ["check g.gr --with", "canon --", "check g.gr --form 1", "compare g.gr", "toString g.gr"]
+WRONG_WORDS += ["help nothing", "show g.gr g.gr", "-", "--", "g.gr", "Canon g.gr", "check", "toString -h"]
+WRONG_WORDS += ["canon -- -h g.gr"]
 # Runs of `canon`, and wrong command lines.
 OTHERS = runs(
     ("canon -", ROADS, ROADS_CANON),
@@ -205,13 +212,8 @@ OTHERS = runs(
     ("canon --form 1 h.min", {"h.min": COSTS}, COSTS_ONE),
     ("canon h.min --form=2", COSTS, COSTS_TWO),
     ("canon missing", {"g.gr": ROADS}, b"", b"missing: 31 Read\n", 4),
-    ("canon", {"g.gr": ROADS}, b"", b"dnorm: bad command line\n", 3),
-    ("canon --form 3 h.min", {"g.gr": ROADS}, b"", b"dnorm: bad command line\n", 3),
-    ("g.gr", {"g.gr": ROADS}, b"", b"dnorm: bad command line\n", 3),
-    ("canon -x", {"g.gr": ROADS}, b"", b"dnorm: bad command line\n", 3),
-    ("canon --", {"g.gr": ROADS}, b"", b"dnorm: bad command line\n", 3),
-    ("Canon g.gr", ROADS, b"", b"dnorm: bad command line\n", 3),
-    ("canon g.gr g.gr", ROADS, b"", b"dnorm: bad command line\n", 3),
+    ("canon .", {"g.gr": ROADS}, b"", b".: 31 Read\n", 4),
+    *((it, {"g.gr": ROADS}, b"", b"dnorm: bad command line\n", 3) for it in WRONG_WORDS),
 )
 
 # Texts, and their canonical texts in form 1 and in form 2.

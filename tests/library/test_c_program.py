@@ -14,8 +14,8 @@ import subprocess
 import sys
 
 import pytest
-from known import ROADS, ROADS_CANON, rows
-from needs import need, pass_over
+from known import ROADS, ROADS_CANON, WRONG_WORDS, rows
+from needs import need, pass_over, passes
 from shared import ROOT, Answer, Words, pipe, run, said, text_of, write
 from test_c_file import HERE, SANITIZERS
 from texts import lines_of, made, spelled, spoilt
@@ -49,9 +49,6 @@ SUITE = ["gcc -O2", "sanitizers"]
 # The names that a symbol table exports, and sections of variables with their sizes, unless these are 0.
 EXPORTED = re.compile(r" [A-Z] (\w+)$", re.M)
 VARIABLES = re.compile(r"^ *\d+ (\.(?:data|bss)) +0*[1-9a-f]", re.M)
-# Words that the program refuses.
-REFUSED = ["canon", "canon a b", "canon --form 3 a", "canon --form=1 --form=2 a", "canon -x", "check a --with"]
-REFUSED += ["check a --with -x", "check a --form 1", "compare a", "toString a", "help nothing", "show a b", "-", "--"]
 
 
 def c_file(folder: str) -> str:
@@ -159,8 +156,8 @@ def runs(program: Program) -> None:
 
 def words(program: Program, tested: str) -> None:
     """Words that are refused, help, and the version."""
-    write("a", ROADS)
-    for it in REFUSED[:: min(program.sample, 7)]:
+    write("g.gr", ROADS)
+    for it in [*WRONG_WORDS, "check g.gr --with -x"][:: min(program.sample, 7)]:
         assert program.run(it.split()) == said(b"", "dnorm: bad command line\n", 3), it
     for it in ["help", "canon -h", "compare --help x"][: 4 - min(program.sample, 3)]:
         found = program.run(it.split())
@@ -213,7 +210,11 @@ def at_length(tested: str) -> str:
 @pytest.mark.parametrize("name", ["answers", "host", "hostile", "memory", "samples", "search"])
 def test_as_program(at_length: str, name: str) -> None:
     """The tests of the program, but for the one line of its version."""
-    passes(at_length, f"program/test_{name}.py", "--deselect=tests/program/test_host.py::test_command[--version]")
+    passes(
+        at_length,
+        f"{ROOT}/tests/program/test_{name}.py",
+        "--deselect=tests/program/test_host.py::test_command[--version]",
+    )
 
 
 def test_as_library(at_length: str, folder: str) -> None:
@@ -239,26 +240,8 @@ def test_as_library(at_length: str, folder: str) -> None:
     os.remove(f"{prefix}/lib/libdnorm.so")
     shutil.copy(shared, f"{prefix}/lib/libdnorm.so")
     others = [f"--ignore={HERE}/test_c_{it}.py" for it in ("file", "program")]
-    passes(f"{ROOT}/dnorm", "library", *others, DNORM_TESTED_PREFIX=prefix)
-    passes(f"{ROOT}/dnorm", "python", DNORM_TESTED_PREFIX=prefix)
-
-
-def passes(program: str, name: str, *more: str, **own: str) -> None:
-    """Runs tests on a program, without those that measure times."""
-    line = [
-        sys.executable,
-        "-m",
-        "pytest",
-        "-q",
-        "-m",
-        "not alone",
-        "-pno:cacheprovider",
-        "-pno:xdist",
-        f"--rootdir={ROOT}",
-    ]
-    line += [f"{ROOT}/tests/{name}", f"--program={program}", *more]
-    ran = run(line, limit=None, env={**os.environ, **own}, cwd=ROOT)
-    assert ran.status == 0, ran.out.decode()
+    passes(f"{ROOT}/dnorm", HERE, *others, DNORM_TESTED_PREFIX=prefix)
+    passes(f"{ROOT}/dnorm", f"{ROOT}/tests/python", DNORM_TESTED_PREFIX=prefix)
 
 
 # Reads a text by its name, by a stream and by standard input, as dnorm_tools.h does, and in C++ as dnorm.hpp does.
@@ -293,21 +276,10 @@ def test_headers_on_windows(folder: str, compiler: str, name: str, out: str) -> 
     need(WINE, f"x86_64-w64-mingw32-{compiler}", "x86_64-w64-mingw32-gcc")
     write("ends.gr", ENDS)
     write(name, READS)
-    library = c_file(folder)
     standard = ["-std=c++17", "-static"] if compiler == "g++" else ["-std=c99"]
-    assert run(["x86_64-w64-mingw32-gcc", "-w", "-c", library], limit=None) == said()
-    words = [
-        f"x86_64-w64-mingw32-{compiler}",
-        *standard,
-        "-Wall",
-        "-Wextra",
-        "-I.",
-        "-o",
-        "reads.exe",
-        name,
-        "libdnorm.o",
-    ]
-    assert run(words, limit=None) == said()
+    linked = ["-Wall", "-Wextra", "-I.", "-o", "reads.exe", name, "libdnorm.o"]
+    for one, *words in [("gcc", "-w", "-c", c_file(folder)), (compiler, *standard, *linked)]:
+        assert run([f"x86_64-w64-mingw32-{one}", *words], limit=None) == said()
     env = {**os.environ, **IN_WINE, "WINEPREFIX": f"{folder}/wine"}
     run([WINE, "reads.exe", "ends.gr"], ENDS, limit=300, env=env)
     assert run([WINE, "reads.exe", "ends.gr"], ENDS, limit=300, env=env) == said(out)

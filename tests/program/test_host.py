@@ -14,17 +14,13 @@ from collections.abc import Callable, Iterator
 from typing import IO, Any
 
 import pytest
-from known import COSTS, COSTS_ONE, ROADS, ROADS_CANON
+from known import COSTS, COSTS_ONE, ROADS, ROADS_CANON, ROADS_SHOWN
 from needs import need_proc
 from shared import LIMIT, Answer, least_level, own_folder, pipe, run, said, within, write
 
 # What starts the program with these words, and ends it with the test.
 Starts = Callable[..., "subprocess.Popen[bytes]"]
 
-ROADS_SHOWN = (
-    b"kind sp\nnodes 3\nlines 7\npairs 5\npair 1 2 length 3\npair 2 1 length 4\npair 2 2 length 0\n"
-    b"pair 2 3 length 9\npair 3 1 length -5\n"
-)
 FILES = {
     "g.gr": ROADS,
     "c.gr": ROADS_CANON,

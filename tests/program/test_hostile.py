@@ -14,7 +14,7 @@ import time
 from collections.abc import Iterable, Iterator
 
 import pytest
-from known import CAPACITIES, FLOWS, ROADS
+from known import CAPACITIES, FLOWS, ROADS, WIDE, WIDE_SHOWN
 from reading import MOST, Fault, Item, canonical, read
 from shared import LIMIT, Answer, Quick, Words, least_level, pipe, run, said, within, write
 
@@ -34,18 +34,9 @@ BYTES, SOME = bytes(range(256)), b"\0\t\n\v\r !+,-./01289:abcnpqstvx\x7f\x80\xff
 # Texts of which every prefix is refused, except the whole text and the text without its last LF.
 CUT = [FLOWS, CAPACITIES, ROADS, SOURCES, b"p aux sp co 2\nv 3 -73530767 41085396\nv 1 5 -6\n"]
 
-# Two arcs with the greatest capacity, and the least and the greatest cost.
-WIDE = (
-    b"p min 2 2\na 1 2 4611686018427387904 4611686018427387904 -9223372036854775808\n"
-    b"a 1 2 4611686018427387903 4611686018427387903 9223372036854775807\n"
-)
 WIDE_CANON = (
     b"p min 2 2\na 1 2 4611686018427387904 4611686018427387904 -2\n"
     b"a 1 2 4611686018427387903 4611686018427387903 -1\n"
-)
-WIDE_SHOWN = (
-    b"kind min\nnodes 2\nlines 2\nsupplies 0\npairs 1\n"
-    b"pair 1 2 forced 9223372036854775807 cost -13835058055282163711 steps 0\n"
 )
 # Arguments, a text on standard input, the expected standard output and standard error, and the status. `far.co` names
 # the greatest node.

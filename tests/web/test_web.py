@@ -92,28 +92,6 @@ def test_as_program(folder: str, row: Row) -> None:
     assert found == said(row.out, row.err, row.status), row.named
 
 
-@pytest.mark.parametrize(
-    "words, err",
-    [
-        ("canon .", ".: 31 Read"),
-        ("canon --form=1 --form=2 g", "dnorm: bad command line"),
-        ("check g --form 1", "dnorm: bad command line"),
-        ("check g --with", "dnorm: bad command line"),
-        ("check", "dnorm: bad command line"),
-        ("compare g", "dnorm: bad command line"),
-        ("toString g", "dnorm: bad command line"),
-        ("toString -h", "dnorm: bad command line"),
-        ("help nothing", "dnorm: bad command line"),
-        ("canon -- -h g", "dnorm: bad command line"),
-    ],
-)
-def test_refused_words(tested: str, folder: str, words: str, err: str) -> None:
-    write("g", ROADS)
-    status = 4 if "31" in err else 3
-    assert run(["node", SCRIPT, *words.split()]) == said(b"", f"{err}\n", status)
-    assert run([tested, *words.split()]) == said(b"", f"{err}\n", status)
-
-
 def test_other_words(tested: str, folder: str) -> None:
     """Names behind --, help, the version, and an output that is full."""
     write("-g", ROADS)
