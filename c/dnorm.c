@@ -352,8 +352,8 @@ static int (*understood(const command *it, int count, char **words))(void) {
         else if (words[i][length] == '=') own.value = words[i] + length + 1;
         else if (words[i][length] || ++i == count || (words[i][0] == '-' && words[i][1])) return NULL;
         else own.value = words[i];
+        if (it->perform == canon && own.value && strcmp(own.value, "1") && strcmp(own.value, "2")) return NULL;
     }
-    if (it->perform == canon && own.value && strcmp(own.value, "1") && strcmp(own.value, "2")) return NULL;
     return files == it->files ? it->perform : NULL;
 }
 

@@ -204,7 +204,8 @@ PAIRS = runs(
 WRONG_WORDS = ["canon", "canon g.gr g.gr", "canon --form 3 g.gr", "canon --form=1 --form=2 g.gr", "canon -x"]
 WRONG_WORDS += ["check g.gr --with", "canon --", "check g.gr --form 1", "compare g.gr", "toString g.gr"]
 WRONG_WORDS += ["help nothing", "show g.gr g.gr", "-", "--", "g.gr", "Canon g.gr", "check", "toString -h"]
-WRONG_WORDS += ["canon -- -h g.gr"]
+WRONG_WORDS += ["canon -- -h g.gr", "check g.gr --with -x", "check g.gr --with -h", "canon --form 3 --help"]
+WRONG_WORDS += ["canon --form=1 --form=2 -h", "show g.gr g.gr -h", "canon -x -h", "help -h"]
 # Runs of `canon`, and wrong command lines.
 OTHERS = runs(
     ("canon -", ROADS, ROADS_CANON),

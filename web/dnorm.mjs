@@ -419,38 +419,40 @@ class Ended extends Error {
   }
 }
 
-// Whether words call for help, as those of the program do: for that of a command, which is the same here.
-function asksForHelp([name, ...rest]) {
-  const options = ['-h', '--help'];
-  if (name === 'help') return rest.length < 2 && rest.every((it) => Object.hasOwn(COMMANDS, it));
-  const end = rest.indexOf('--');
-  const words = end < 0 ? rest : rest.slice(0, end);
-  return options.includes(name) || (Object.hasOwn(COMMANDS, name ?? '') && words.some((it) => options.includes(it)));
-}
+// What calls for help.
+const isHelp = (word) => /^-h|^--help$/.test(word);
 
-// Returns the command, its files and the value of its option; a line of words that no command has ends the run.
-function understood(words) {
+// Understands words as the program does, from left to right. Returns the command, its files and the value of its
+// option; or the name `help`, which is the same for each command. A line of words that no command has ends the run.
+function understood([name = 'canon', ...rest]) {
   const bad = new Ended('dnorm: bad command line', 3);
-  const [name = 'canon', ...rest] = words;
-  const command = Object.hasOwn(COMMANDS, name) ? COMMANDS[name] : null;
-  if (!command) throw bad;
-  const files = words.length ? [] : ['-'];
+  const help = { name: 'help' };
+  const isCommand = (word) => Object.hasOwn(COMMANDS, word);
+  const isNamed = name === 'help' && rest.length < 2 && rest.every((it) => it === 'help' || isCommand(it));
+  if (isHelp(name) || isNamed) return help;
+  if (!isCommand(name)) throw bad;
+  const command = COMMANDS[name];
+  const files = [];
   let value = null;
   let isOver = false;
   for (let i = 0; i < rest.length; i += 1) {
     const [word, given] = rest[i].split(/=(.*)/s);
-    if (!isOver && rest[i] === '--') {
+    if (isOver || !/^-./s.test(rest[i])) {
+      if (files.push(rest[i]) > command.files) throw bad;
+    } else if (rest[i] === '--') {
       isOver = true;
-    } else if (!isOver && word === command.option && value === null) {
+    } else if (isHelp(rest[i])) {
+      return help;
+    } else if (word === command.option && value === null) {
       value = given ?? rest[i += 1];
-      if (value === undefined) throw bad;
-    } else if (!isOver && rest[i].startsWith('-') && rest[i] !== '-') {
-      throw bad;
+      // A word that may be an option is a value only behind `=`.
+      const isValue = given !== undefined || (value !== undefined && !/^-./s.test(value));
+      if (!isValue || (name === 'canon' && !['1', '2'].includes(value))) throw bad;
     } else {
-      files.push(rest[i]);
+      throw bad;
     }
   }
-  if (files.length !== command.files || (name === 'canon' && !['1', '2', null].includes(value))) throw bad;
+  if (files.length !== command.files) throw bad;
   const named = name === 'check' && value !== null ? [...files, value] : files;
   if (named.length === 2 && named.every((it) => it === '-')) throw new Ended('dnorm: standard input named twice', 3);
   return { name, files: named, form: Number(value ?? 1) };
@@ -570,16 +572,16 @@ async function main(words, process) {
     process.stdout.write(piece, (error) => (error ? reject(new Ended('out: 33 Write', 4)) : resolve()));
   });
   try {
-    if (asksForHelp(words)) {
-      await write(HELP);
-      return 0;
-    }
-    if (['-V', '--version'].includes(words[0])) {
+    if (/^-V|^--version$/.test(words[0])) {
       const { readFileSync } = await import('node:fs');
       await write(`dnorm ${JSON.parse(readFileSync(new URL('package.json', import.meta.url))).version}\n`);
       return 0;
     }
-    const asked = understood(words);
+    const asked = understood(words.length ? words : ['canon', '-']);
+    if (asked.name === 'help') {
+      await write(HELP);
+      return 0;
+    }
     const run = new Command(await load(), process, await import('node:crypto'));
     const printing = run[asked.name](asked);
     let it = await printing.next();

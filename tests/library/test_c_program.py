@@ -157,7 +157,7 @@ def runs(program: Program) -> None:
 def words(program: Program, tested: str) -> None:
     """Words that are refused, help, and the version."""
     write("g.gr", ROADS)
-    for it in [*WRONG_WORDS, "check g.gr --with -x"][:: min(program.sample, 7)]:
+    for it in WRONG_WORDS[:: min(program.sample, 7)]:
         assert program.run(it.split()) == said(b"", "dnorm: bad command line\n", 3), it
     for it in ["help", "canon -h", "compare --help x"][: 4 - min(program.sample, 3)]:
         found = program.run(it.split())
@@ -189,7 +189,7 @@ def test_as_module(folder: str) -> None:
     with subprocess.Popen(words, stdin=subprocess.PIPE, stdout=subprocess.PIPE) as node:
         write("other", ROADS)
         for i in range(RANDOM):
-            lines = lines_of(chance, made(chance, KINDS[i % 6], i % 4 == 0))
+            lines = lines_of(chance, made(chance, KINDS[i // 2 % 6], i % 4 == 0))
             write("other" if i % 2 else "text", spelled(chance, spoilt(chance, lines) if i % 3 == 0 else lines))
             for it in ["canon --form 1 text", "canon --form 2 other", "show text", "compare text other"]:
                 asked, answers = pipe(node.stdin), pipe(node.stdout)

@@ -110,7 +110,7 @@ def test_random_texts(node: Node, often: Quick, seed: int) -> None:
     """What it says of texts, correct and faulty, is what the program says."""
     chance = random.Random(seed)
     for i in range(RANDOM):
-        lines = lines_of(chance, made(chance, KINDS[i % 6], i % 4 == 0))
+        lines = lines_of(chance, made(chance, KINDS[i // 2 % 6], i % 4 == 0))
         write("other" if i % 2 else "text", spelled(chance, spoilt(chance, lines) if i % 3 == 0 else lines))
         if i == 0:
             write("other", ROADS)
