@@ -424,7 +424,7 @@ const isHelp = (word) => /^-h|^--help$/.test(word);
 
 // Understands words as the program does, from left to right. Returns the command, its files and the value of its
 // option; or the name `help`, which is the same for each command. A line of words that no command has ends the run.
-function understood([name = 'canon', ...rest]) {
+function understood([name, ...rest]) {
   const bad = new Ended('dnorm: bad command line', 3);
   const help = { name: 'help' };
   const isCommand = (word) => Object.hasOwn(COMMANDS, word);

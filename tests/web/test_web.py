@@ -97,7 +97,7 @@ def test_other_words(tested: str, folder: str) -> None:
     write("-g", ROADS)
     assert run(["node", SCRIPT, "canon", "--", "-g"]) == said(ROADS_CANON)
     assert run(["node", SCRIPT, "--version"]) == run([tested, "--version"])
-    for words in ["help", "help canon", "-h", "canon --help", "check x -h", "compare -h x"]:
+    for words in ["help", "help canon", "help help", "-hx", "canon --help", "canon -hx", "check x -h", "compare -h x"]:
         found = run(["node", SCRIPT, *words.split()])
         assert (b"Usage: dnorm.mjs canon" in found.out, found.err, found.status) == (True, b"", 0), words
     if os.path.exists("/dev/full"):
