@@ -69,13 +69,13 @@ class Function:
         self.blocks: list[int | None | bool] = []
         self.loops = 0
 
-    def put(self, *parts: int | bytes) -> None:
+    def put(self, *parts: int | bytes | tuple[int, bytes]) -> None:
+        """Puts bytes behind the code. A number that the linker has placed comes with the kind of its relocation."""
         for it in parts:
+            if isinstance(it, tuple):
+                self.relocated.append((it[0], len(self.code)))
+                it = it[1]
             self.code += bytes([it]) if isinstance(it, int) else it
-
-    def place(self, kind: int, number: bytes) -> None:
-        self.relocated.append((kind, len(self.code)))
-        self.put(number)
 
     @contextlib.contextmanager
     def block(self, number: int, kind: int | None, is_loop: bool = False) -> Iterator[None]:
@@ -125,15 +125,11 @@ class Function:
             at = self.chance.randrange(BYTES >> size) << size
             if how < 2:
                 # The second way adds up to 7 to the offset.
-                at = 0 if how else at
-                self.put(*([0x20, 1, 0x42, 7, 0x83] if how else [0x42, 0]), number, 0 if how else align)
-                self.place(OFFSET, leb(BASE + at))
+                before, at, align = ([0x20, 1, 0x42, 7, 0x83], 0, 0) if how else ([0x42, 0], at, align)
+                self.put(*before, number, align, (OFFSET, leb(BASE + at)))
                 return
-            self.put(0x42)
-            self.place(ADDRESS, leb(BASE + (BYTES if how == 2 else at), True))
-            if how == 2:
-                self.put(0x29, 3, 0)
-            self.put(number, align, 0)
+            self.put(0x42, (ADDRESS, leb(BASE + (BYTES if how == 2 else at), True)))
+            self.put(*([0x29, 3, 0] if how == 2 else []), number, align, 0)
             return
         self.address(depth, align)
         self.put(number, align, leb(self.chance.randrange(MOST >> align) << align))
@@ -195,11 +191,8 @@ class Function:
         self.put(0x20, 0)
         self.value(I64, depth)
         self.value(I64, depth)
-        self.put(0x10)
         # The first function is the imported one.
-        self.place(FUNCTION, leb(1 + self.chance.randrange(self.callable)))
-        if kind == I32:
-            self.put(0xA7)
+        self.put(0x10, (FUNCTION, leb(1 + self.chance.randrange(self.callable))), *([0xA7] if kind == I32 else []))
 
     def statements(self, most: int, depth: int) -> None:
         ways = [self.sets, self.stores, self.stores, self.decides, lambda it: self.repeated(None, it), self.tables]
@@ -242,8 +235,7 @@ class Function:
 
     def tells(self, depth: int) -> None:
         self.value(I64, depth)
-        self.put(0x10)
-        self.place(FUNCTION, leb(0))
+        self.put(0x10, (FUNCTION, leb(0)))
 
     def moves(self, depth: int) -> None:
         """Bytes that are copied, also to where they are, or filled."""
@@ -261,12 +253,9 @@ class Function:
 
     def remembers(self, depth: int) -> None:
         """What a global has goes to a local, and something else to the global."""
-        self.put(0x23)
-        self.place(GLOBAL, leb(1))
+        self.put(0x23, (GLOBAL, leb(1)))
         self.value(I32, depth)
-        self.put(0x24)
-        self.place(GLOBAL, leb(1))
-        self.put(0x21, self.chance.choice(SET[I32]))
+        self.put(0x24, (GLOBAL, leb(1)), 0x21, self.chance.choice(SET[I32]))
 
     def leaves(self, depth: int) -> None:
         """Under a condition, a branch, a return or a trap, with something behind it that is never reached."""
@@ -334,18 +323,12 @@ def deep(number: int) -> Function:
     """Returns the function of this number, which calls itself as often as it is told, each time with a frame on the
     module's stack, as the kit compiles one."""
     made = Function(Random(0), 0)
-    made.put(0x23)
-    made.place(GLOBAL, leb(0))
+    frame, pointer = leb(FRAME, True), (GLOBAL, leb(0))
     # As the kit may do, it writes into its frame before it checks that there is room.
-    made.put(0x42, leb(FRAME, True), 0x7D, 0x22, 5, 0x42, leb(-1, True), 0x37, 3, 0)
-    made.put(0x20, 5, 0x42, 16, 0x53, 0x04, 0x40, 0x00, 0x0B, 0x20, 5, 0x24)
-    made.place(GLOBAL, leb(0))
-    made.put(0x20, 1, 0x50, 0x04, 0x40, 0x05)
-    made.put(0x20, 0, 0x20, 1, 0x42, 1, 0x7D, 0x20, 2, 0x10)
-    made.place(FUNCTION, leb(number))
-    made.put(0x1A, 0x0B, 0x20, 5, 0x42, leb(FRAME, True), 0x7C, 0x24)
-    made.place(GLOBAL, leb(0))
-    made.put(0x42, 0)
+    made.put(0x23, pointer, 0x42, frame, 0x7D, 0x22, 5, 0x42, leb(-1, True), 0x37, 3, 0)
+    made.put(0x20, 5, 0x42, 16, 0x53, 0x04, 0x40, 0x00, 0x0B, 0x20, 5, 0x24, pointer)
+    made.put(0x20, 1, 0x50, 0x04, 0x40, 0x05, 0x20, 0, 0x20, 1, 0x42, 1, 0x7D, 0x20, 2, 0x10)
+    made.put((FUNCTION, leb(number)), 0x1A, 0x0B, 0x20, 5, 0x42, frame, 0x7C, 0x24, pointer, 0x42, 0)
     return made
 
 
