@@ -10,27 +10,9 @@ use std::num::IntErrorKind;
 use std::process::ExitCode;
 
 const CODES: [&str; 21] = [
-    "BadLine",
-    "EarlyLine",
-    "SecondProblem",
-    "UnknownProblem",
-    "WrongLine",
-    "LateNode",
-    "TooManyLines",
-    "FieldCount",
-    "NotANumber",
-    "OutOfRange",
-    "Negative",
-    "BadTerminal",
-    "NodeOutOfRange",
-    "RepeatedNode",
-    "SameTerminal",
-    "LowAboveCap",
-    "SumTooLarge",
-    "NoProblem",
-    "MissingTerminal",
-    "TooFewLines",
-    "TooLong",
+    "BadLine", "EarlyLine", "SecondProblem", "UnknownProblem", "WrongLine", "LateNode", "TooManyLines", "FieldCount",
+    "NotANumber", "OutOfRange", "Negative", "BadTerminal", "NodeOutOfRange", "RepeatedNode", "SameTerminal",
+    "LowAboveCap", "SumTooLarge", "NoProblem", "MissingTerminal", "TooFewLines", "TooLong",
 ];
 
 /// A kind: its words after `p`, the letter and the fields of the lines that are counted, and the fields of its node lines.

@@ -238,7 +238,7 @@ def test_installed_readme(tested: str, folder: str) -> None:
     assert run([sys.executable, f"{ROOT}/tools/pages.py", pages]) == said(), "links"
     own = {it: value for it, value in os.environ.items() if it not in ("DNORM", "PYTHONPATH")}
     own["PATH"] = f"{prefix}/bin:{own['PATH']}"
-    here = " 292 lines of plain Rust (`bench/baselines/btree.rs`)."
+    here = " 274 lines of plain Rust (`bench/baselines/btree.rs`)."
     assert here in text_of(f"{pages}/{README}"), "a link to what is not installed"
     blocks = [*blocks_of(text_of(f"{pages}/{README}"))]
     assert len(blocks) == len([*blocks_of(text_of(f"{ROOT}/{README}"))]) > 5
