@@ -31,11 +31,10 @@ from .library import find_library
 from .lines import ArcLines
 from .manifests import Changes, Manifest, manifest_changes, read_manifest
 from .networks import from_networkx, from_scipy
-from .pairs import PairDifference
+from .pairs import Differences, PairDifference, differences
 from .reader import read
 from .records import Contents, Range, Record
 from .refusals import REFUSALS
-from .summary import Differences, differences
 
 # The version of the program that this package belongs to, as Python packages spell it.
 __version__ = "3.0.0.dev0"

@@ -16,15 +16,10 @@ def is_module_run() -> bool:
     return module == "dnorm" or module.startswith("-") and module.endswith("mdnorm")
 
 
-def leave_current_folder() -> None:
-    """Takes the current folder out, if Python has put it first."""
+if is_module_run():
     try:
         if not getattr(sys.flags, "safe_path", False) and sys.path[:1] == [os.getcwd()]:
             del sys.path[0]
     except OSError:
         # The folder is gone, and nothing in it can be found.
         pass
-
-
-if is_module_run():
-    leave_current_folder()

@@ -154,11 +154,10 @@ def forms_of(kind: str, own: Optional[str], checksum: Callable[[Form], str]) -> 
 
     @functools.cache
     def is_canonical(form: Form) -> bool:
-        try:
+        # The canonical text may have too many lines.
+        with contextlib.suppress(Refused):
             return own == checksum(form)
-        except Refused:
-            # The canonical text has too many lines.
-            return False
+        return False
 
     forms: tuple[Form, ...] = (1, 2)
     # Both forms are the same but for `min`.

@@ -45,7 +45,6 @@ def numpy_here() -> Any:
 
 
 def column(numbers: array[int]) -> Any:
-    """Returns the column of these numbers."""
     np = numpy_here()
     return memoryview(numbers).toreadonly() if np is None else read_only(np.asarray(numbers).view(np.int64))
 
@@ -108,12 +107,10 @@ def numbers_of(given: Iterable[Any], name_at: Callable[[int], str]) -> array[int
 
 
 def least_and_greatest(numbers: Any) -> tuple[int, int]:
-    """Returns the least and the greatest number of a column, or of a list."""
     if hasattr(numbers, "max"):
         return int(numbers.min()), int(numbers.max())
     return min(numbers), max(numbers)
 
 
 def are_same(left: Any, right: Any) -> bool:
-    """Whether two columns have the same numbers."""
     return len(left) == len(right) and bool(memoryview(left) == memoryview(right))

@@ -86,20 +86,17 @@ PADS: dict[str, Callable[[int, bool], bool]] = {
 def compression_of(name: str) -> str:
     """Returns the ending by which the file of this name is decompressed, or nothing if it is plain. Raises OSError for
     a compression that is not read."""
-    raise_for(unknown_compression(name))
+    if reason := unknown_compression(name):
+        raise OSError(reason)
     return ending_of(name) if ending_of(name) in COMPRESSIONS else ""
 
 
 def compressor_of(name: str) -> Callable[[BinaryIO], BinaryIO] | None:
     """Returns how the file of this name is compressed, or None if it is plain. Raises OSError for a compression that is
     not written, and for a name that stands for no plain text."""
-    raise_for(unknown_compression(name) or unknown_text(name))
-    return COMPRESSORS.get(ending_of(name))
-
-
-def raise_for(reason: str) -> None:
-    if reason:
+    if reason := unknown_compression(name) or unknown_text(name):
         raise OSError(reason)
+    return COMPRESSORS.get(ending_of(name))
 
 
 def pieces(read: Reads, ending: str) -> Iterator[bytes]:

@@ -43,17 +43,19 @@ def heed() -> None:
             signal.signal(it, stop)
 
 
+def is_open(fd: int) -> bool:
+    with contextlib.suppress(OSError):
+        return bool(os.fstat(fd))
+    return False
+
+
 def has_output() -> bool:
     """Whether standard output is open. No file that is opened later gets the number of a standard stream."""
-    try:
-        os.fstat(1)
-        is_open = True
-    except OSError:
-        is_open = False
+    found = is_open(1)
     while (fd := os.open(os.devnull, os.O_RDWR)) <= 2:
         pass
     os.close(fd)
-    return is_open
+    return found
 
 
 class Console:
@@ -72,7 +74,6 @@ class Console:
         self._done, self._total, self._size = 0, total, size
 
     def step(self) -> None:
-        """Counts a task that has ended."""
         with self._lock:
             self._done += 1
         self.draw()

@@ -79,11 +79,7 @@ class TimedOut(DnormError):
 
     def __init__(self, name: str, timeout: float) -> None:
         super().__init__(name, timeout)
-        self.timeout = timeout
-
-    @property
-    def rest(self) -> str:
-        return f": took more than {self.timeout:g} seconds"
+        self.timeout, self.what = timeout, f": took more than {timeout:g} seconds"
 
 
 class Failed(DnormError):

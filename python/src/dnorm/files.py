@@ -46,7 +46,6 @@ def name_of(file: File | Target) -> str:
 
 
 def reason_of(error: Exception) -> str:
-    """Returns why a call failed."""
     return (isinstance(error, OSError) and error.strerror) or str(error) or type(error).__name__
 
 
@@ -111,7 +110,6 @@ def failed(error: Read) -> Iterator[bytes]:
 
 
 def opened(path: str | os.PathLike[str] | os.PathLike[bytes], limit: Limit) -> io.FileIO:
-    """Opens a file within a limit."""
     if limit.seconds is None:
         return open(path, "rb", buffering=0)
     # Opening a FIFO waits for its writer, which nothing could end.
@@ -164,10 +162,9 @@ progress = Progress()
 
 def place_in(file: io.FileIO) -> int:
     """Returns how far a file was read, or 0 if it has no places, as a pipe."""
-    try:
+    with contextlib.suppress(OSError):
         return file.tell()
-    except OSError:
-        return 0
+    return 0
 
 
 class Text:
@@ -218,7 +215,6 @@ class Text:
         return of_stream(file)
 
     def _decompressed(self, file: io.FileIO, ending: str) -> Iterator[bytes]:
-        """Yields what the file decompresses to, in pieces."""
         try:
             yield from pieces(Timed(file, self.limit).read, ending)
         except (OSError, EOFError) as error:
@@ -227,7 +223,6 @@ class Text:
             raise Read(self.name, reason_of(error), hint) from error
 
     def next_piece(self) -> bytes | None:
-        """Returns the next piece, if there is one."""
         if self._is_stopped:
             raise Read(self.name, "it is no longer wanted")
         if self._pieces is None:
@@ -238,10 +233,7 @@ class Text:
         return piece
 
     def _all(self, text: io.FileIO | Iterator[bytes]) -> Iterator[bytes]:
-        """Returns the pieces of the text."""
-        if not isinstance(text, io.FileIO):
-            return text
-        return of_stream(text) if self.limit.seconds is None else of_stream(Timed(text, self.limit))
+        return of_stream(Timed(text, self.limit)) if isinstance(text, io.FileIO) else text
 
     def stop(self) -> None:
         """Lets reading the text fail from the next piece on, for a thread whose answer is no longer wanted."""

@@ -25,12 +25,16 @@ HIDDEN, CVS, CVS_LIST = {".git", ".hg", ".svn", ".bzr", ".jj", "_darcs"}, "CVS",
 Result = TypeVar("Result")
 
 
+# Files, each with the error of one that is not read.
+Files = dict[str, Optional[DnormError]]
+
+
 class Found(NamedTuple):
     """The files that paths name, each with the error of a path that cannot be searched; the other files below these
     paths, each with the reason why it is not looked at, both in the order of the names; and how many files and folders
     were left out, since a pattern excludes them."""
 
-    files: dict[str, DnormError | None]
+    files: Files
     others: dict[str, str]
     excluded: int = 0
 
@@ -73,13 +77,13 @@ class Search:
 
     def __init__(self, endings: Sequence[str], excluded: Sequence[str]) -> None:
         self.endings, self.excluded, self.left_out = endings, excluded, 0
-        self.files: dict[str, DnormError | None] = {}
+        self.files: Files = {}
         self.others: dict[str, str] = {}
 
-    def below(self, folder: str) -> dict[str, DnormError | None]:
+    def below(self, folder: str) -> Files:
         """Returns the files below a folder, and keeps the others. Links to files count as files, even if they lead
         nowhere; links to folders are not followed."""
-        files: dict[str, DnormError | None] = {}
+        files: Files = {}
         errors: list[OSError] = []
         for at, folders, names in os.walk(folder, onerror=errors.append):
             folders[:] = [it for it in folders if self.is_wanted(folder, at, it)]
@@ -127,16 +131,12 @@ class Collection:
         return f"<dnorm.Collection: {', '.join(f'{count} {it}' for it, count in self.counts.items() if count)}>"
 
     def _repr_html_(self) -> str:
-        """Returns what a notebook shows: the first files that are not accepted as a table."""
         faulty = ((it.name, it.what.lstrip(": "), it.hint or "") for it in self.records if it.error)
         return table(self, ("name", "error", "hint"), faulty)
 
 
 def check_folder(
-    *paths: Union[str, os.PathLike[str]],
-    exclude: Sequence[str] = (),
-    form: Form = 1,
-    timeout: Optional[float] = None,
+    *paths: Union[str, os.PathLike[str]], exclude: Sequence[str] = (), form: Form = 1, timeout: Optional[float] = None
 ) -> Collection:
     """Checks the texts of folders, and that companions fit the graphs of their names, as `dnorm-files check
     --companions` does. Reads each file once, as many at the same time as there are processors. Raises no error for a

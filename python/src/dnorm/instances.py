@@ -115,7 +115,6 @@ class Instance:
         return [getattr(self, it) for it in column_names(type(self))]
 
     def _repr_html_(self) -> str:
-        """Returns what a notebook shows: the first rows as a table."""
         return table(self, column_names(type(self)), self.rows())
 
     def __iter__(self) -> Iterator[tuple[int, ...]]:
@@ -138,7 +137,6 @@ class Instance:
         return f"aux sp {self.kind}"
 
     def _heads(self) -> Iterator[str]:
-        """Yields the node lines."""
         return iter(())
 
     def to_pandas(self) -> DataFrame:

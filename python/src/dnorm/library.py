@@ -50,7 +50,6 @@ U8, I64, U64, SIZE, ADDRESS = ctypes.c_uint8, ctypes.c_int64, ctypes.c_uint64, c
 
 
 def struct(**fields: Any) -> Any:
-    """Returns a struct of C with these fields."""
     return type("Struct", (ctypes.Structure,), {"_fields_": [*fields.items()]})
 
 
@@ -113,7 +112,6 @@ def find_library() -> str:
 
 
 def library() -> Library:
-    """Returns the library. Raises NoLibrary if there is none."""
     return loaded(os.environ.get("DNORM_LIBRARY", ""))
 
 
@@ -210,7 +208,6 @@ class Held:
             lease.end()
 
     def checksum(self, form: int) -> str:
-        """Returns the SHA-256 checksum of the canonical text in a form."""
         found = hashlib.sha256()
         for piece in self.canonical(form):
             found.update(piece)
@@ -247,7 +244,6 @@ def number_of(value: Any) -> Any:
 
 
 def room_for(size: int) -> array[int]:
-    """Returns room for so many numbers."""
     return array("q", [0]) * size
 
 
@@ -262,7 +258,6 @@ class LinesRead:
             raise MemoryError
 
     def take(self, piece: bytes) -> None:
-        """Reads the next piece."""
         address, done = ctypes.cast(ctypes.c_char_p(piece), ADDRESS).value or 0, 0
         handle, to, some = ctypes.byref(self._handle), self._room.buffer_info()[0], memoryview(self._room)
         while done < len(piece):
@@ -280,7 +275,6 @@ class LinesRead:
         return [column(it) for it in self._columns]
 
     def free(self) -> None:
-        """Frees the reader."""
         self._library.free(ctypes.byref(self._handle))
 
 
@@ -291,20 +285,17 @@ def held(text: Text, lines: LinesRead | None = None) -> Iterator[Held]:
     address = ctypes.byref(handle)
     lease = Lease(lambda: found.free(address))
     try:
-        status, failed = found.begin(address), None
+        status = found.begin(address)
         if status.code == FINE:
             status = fed(found, address, text, lines)
         if status.code == FINE:
             status = text.limit.during(functools.partial(found.finish, address), lease)
-        if status.code == FINE:
-            text.limit.left()
-            yield Held(found, address, text, lease)
-        else:
-            failed = error_of(status, text)
+        if status.code != FINE:
+            raise error_of(status, text)
+        text.limit.left()
+        yield Held(found, address, text, lease)
     finally:
         lease.end()
-    if failed:
-        raise failed
 
 
 def fed(found: Library, address: Any, text: Text, lines: LinesRead | None) -> Any:
@@ -327,7 +318,6 @@ def fed(found: Library, address: Any, text: Text, lines: LinesRead | None) -> An
 
 
 def error_of(status: Any, text: Text) -> DnormError:
-    """Returns the error of a status."""
     if status.code == MEMORY:
         return Memory(text.name)
     return refused(text, status.line if status.place == AT_LINE else None, status.code)

@@ -26,12 +26,10 @@ class Lease:
         self._free, self._users, self._lock = free, 1, threading.Lock()
 
     def take(self) -> None:
-        """Says that something more uses it."""
         with self._lock:
             self._users += 1
 
     def end(self) -> None:
-        """Says that something uses it no more."""
         with self._lock:
             self._users -= 1
             is_free = not self._users

@@ -169,7 +169,6 @@ class Manifest:
         return f"<dnorm.Manifest: form {self.form}, {len(self.checksums)} files>"
 
     def _repr_html_(self) -> str:
-        """Returns what a notebook shows: the first files as a table."""
         return table(self, ("name", "checksum"), self.checksums.items())
 
 
@@ -187,7 +186,6 @@ class Changes:
         return f"<dnorm.Changes: {', '.join(f'{len(names)} {it}' for it, names in vars(self).items())}>"
 
     def _repr_html_(self) -> str:
-        """Returns what a notebook shows: the first changes as a table."""
         rows = [(it, name) for it, names in vars(self).items() for name in names]
         return table(self, ("change", "file"), rows)
 

@@ -113,12 +113,8 @@ Edges = list[tuple[Any, Any, dict[str, Any]]]
 
 def of_edges(what: str, edges: Edges, numbers: list[Any]) -> array[int]:
     """Returns what edges have, a number each. Errors name the edge, and call its number by this name."""
-
-    def name_at(place: int) -> str:
-        tail, head, _ = edges[place]
-        return f"the {what} of the edge from {tail} to {head} is {numbers[place]!r}"
-
-    return numbers_of(numbers, name_at)
+    name = "the {} of the edge from {} to {} is {!r}".format
+    return numbers_of(numbers, lambda place: name(what, *edges[place][:2], numbers[place]))
 
 
 def weights_of(edges: Edges, weight: Weight, default: int) -> array[int]:

@@ -16,8 +16,8 @@ from typing import Any, Literal, NamedTuple, Optional, Union
 from .answers import Form
 from .calls import SummedText, forms_of
 from .columns import Column, least_and_greatest, numpy_here
-from .errors import DnormError, Memory, Read, Refused
-from .files import Text, reason_of
+from .errors import DnormError, Read, Refused
+from .files import Text, enough_memory, reason_of
 from .instances import AnyInstance, Co, Graph, Min
 from .library import GRAPHS, Held, held
 from .limits import Limit
@@ -166,7 +166,6 @@ class Partners:
                 self.companions[stem].append(name)
 
     def companions_of(self, name: str) -> list[str]:
-        """Returns the companions of a graph."""
         stem, ending = parts_of(name)
         return self.companions.get(stem, []) if ending in WITH_COMPANIONS else []
 
@@ -193,11 +192,10 @@ class Reading:
         """Reads a file, and returns its record, also if that fails."""
         start = time.monotonic()
         try:
-            found = self._accepted(name)
+            with enough_memory(name):
+                found = self._accepted(name)
         except DnormError as error:
             found = Record(name, error=error)
-        except MemoryError:
-            found = Record(name, error=Memory(name))
         except OSError as error:
             # A limit of the system, as that of open files.
             found = Record(name, error=Read(name, reason_of(error)))
@@ -264,7 +262,6 @@ def without_arcs(it: Graph) -> int:
 
 
 def contents_of(it: AnyInstance) -> Contents:
-    """Returns what an instance contains."""
     columns: dict[str, Union[Column, list[int]]] = {}
     found = Contents(without_arcs(it) if isinstance(it, Graph) else None, None, None, None, None, {})
     if isinstance(it, Min):

@@ -138,7 +138,6 @@ def causes_in(name: str, line: int | None, number: int, node: int | None) -> Ite
 
 
 def wrong_words(words: Sequence[str]) -> Iterator[str]:
-    """Yields what is wrong with a command line."""
     command, *others = words
     if command not in COMMANDS:
         yield unknown_command(command)
@@ -170,7 +169,6 @@ def wrong_words(words: Sequence[str]) -> Iterator[str]:
 
 
 def wrong_files(command: str, files: Sequence[str], wanted: int) -> Iterator[str]:
-    """Yields what is wrong with the files of a command."""
     for it in files:
         if not it.isascii() and it != it.encode(errors="ignore").decode():
             yield f"dnorm takes no name that is not UTF-8: dnorm {command} - < {quoted(it)}"

@@ -59,7 +59,6 @@ class Parser(argparse.ArgumentParser):
 
 
 def parser() -> Parser:
-    """Returns the parser of the command line."""
     epilog = f"{STATUSES}\n{page()} describes the commands.\n"
     layout: dict[str, Any] = {"formatter_class": argparse.RawDescriptionHelpFormatter, "epilog": epilog}
     top = Parser(prog="dnorm-files", description=ABOUT, allow_abbrev=False, **layout)
@@ -83,7 +82,6 @@ def parser() -> Parser:
 
 
 def seconds(word: str) -> float:
-    """Returns the number of seconds of an option."""
     with contextlib.suppress(ValueError):
         if 0 < float(word) <= LONGEST:
             return float(word)
@@ -136,7 +134,6 @@ def add_outputs(one: argparse.ArgumentParser, task: str) -> None:
 
 
 def add_looks(one: argparse.ArgumentParser) -> None:
-    """Adds the arguments of `look`."""
     one.add_argument("path", nargs="+", metavar="PATH", help="two files; or a folder")
     about = "of a folder: name the files that are new, gone, renamed or otherwise than in this manifest"
     one.add_argument("--since", metavar="FILE", help=about)
@@ -145,7 +142,6 @@ def add_looks(one: argparse.ArgumentParser) -> None:
 
 
 def add_comparison(one: argparse.ArgumentParser) -> None:
-    """Adds the arguments of `compare`."""
     one.add_argument("left", metavar="LEFT", help="a file, or - for standard input")
     one.add_argument("right", metavar="RIGHT", help="another file")
     alone = one.add_mutually_exclusive_group().add_argument
@@ -156,7 +152,6 @@ def add_comparison(one: argparse.ArgumentParser) -> None:
 
 
 def parsed(words: Sequence[str]) -> argparse.Namespace:
-    """Returns the arguments."""
     if words[:1] and words[0] in OTHER_COMMANDS:
         parser().error(OTHER_COMMANDS[words[0]])
     found, others = parser().parse_known_args(words)

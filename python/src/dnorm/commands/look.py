@@ -17,10 +17,9 @@ from ..errors import NoProgram, Refused
 from ..folders import Collection
 from ..instances import Graph, Min
 from ..manifests import Changes
-from ..pairs import Arcs, PairDifference
+from ..pairs import Arcs, Differences, PairDifference
 from ..program import WEB, placed
 from ..records import SIZES, Record
-from ..summary import Differences
 from .reports import counted
 
 # How many corners of a curve, arcs of a pair, and pairs around a pair a page has; how many causes, and files of one;

@@ -11,9 +11,8 @@ from xml.etree import ElementTree
 
 from ..errors import Refused
 from ..manifests import line_with
-from ..pairs import VALUES
+from ..pairs import VALUES, Differences
 from ..records import SIZES, Contents, Range, Record
-from ..summary import Differences
 
 # The sums that `list` tells.
 SUMS = ("capacity", "capacity_times_cost", "supply", "demand")
@@ -47,7 +46,6 @@ def counted(counts: Mapping[str, int], always: Container[str]) -> str:
 
 
 def line_of(it: Record) -> str:
-    """Returns the line of a file."""
     if it.error:
         return line_with(it.name, after=it.what)
     more = [*([f"fits {', '.join(it.graphs)}"] if it.graphs else []), *it.remarks]
@@ -125,15 +123,12 @@ def junit(records: Sequence[Record]) -> bytes:
     for it in records:
         attributes = {"classname": "dnorm", "name": for_xml(it.name), "time": f"{it.seconds:.6f}"}
         case = ElementTree.SubElement(suite, "testcase", attributes)
-        if isinstance(it.error, Refused):
-            counts["failures"] += 1
-            failure = ElementTree.SubElement(case, "failure", type=it.error.word, message=for_xml(str(it.error)))
-            failure.text = for_xml("\n".join([it.error.sentence, *cause_of(it)]))
-        elif it.error:
-            counts["errors"] += 1
-            message = for_xml(f"{it.name}{it.what}")
-            failure = ElementTree.SubElement(case, "error", type=type(it.error).__name__, message=message)
-            failure.text = for_xml("\n".join(cause_of(it))) or None
+        if it.error:
+            refused = it.error if isinstance(it.error, Refused) else None
+            what, kind = ("failure", refused.word) if refused else ("error", type(it.error).__name__)
+            counts[f"{what}s"] += 1
+            fault = ElementTree.SubElement(case, what, type=kind, message=for_xml(f"{it.name}{it.what}"))
+            fault.text = for_xml("\n".join([*([refused.sentence] if refused else []), *cause_of(it)])) or None
         elif it.remarks:
             ElementTree.SubElement(case, "system-out").text = for_xml(", ".join(it.remarks))
     suite.attrib.update((it, str(count)) for it, count in counts.items())
@@ -157,7 +152,6 @@ def record_of_differences(it: Differences) -> dict[str, object]:
 
 
 def lines_of_differences(it: Differences) -> Iterator[str]:
-    """Yields the lines that tell the differences of two texts."""
     yield str(it.first)
     if it.kind is None:
         return

@@ -8,18 +8,18 @@ import json
 import os
 from argparse import Namespace
 from collections import Counter
-from collections.abc import Callable, Sequence
+from collections.abc import Callable
 from typing import Optional
 
 from ..console import Console
 from ..errors import Read
 from ..files import reason_of, sink_of
-from ..folders import Collection, Found, find, in_order_of_names
+from ..folders import Collection, Files, Found, find, in_order_of_names
 from ..manifests import Entry, Mark, line_with, manifest_changes, manifest_in, mark_of, read_manifest
 from ..manifests import renewed
 from ..manifests import text_of as text_of_manifest
+from ..pairs import differences
 from ..records import Partners, Reading, Record, Tells, counts_of
-from ..summary import differences
 from .look import page_of_folder, page_of_pair
 from .reports import annotation_of, cause_of, counted, junit, line_of, lines_of_differences, record_of_differences
 from .reports import row_of, text_of
@@ -34,9 +34,6 @@ DONE = {"check": "accepted", "manifest": "listed", "verify": "same", "same": "ac
 DONE["look"] = "accepted"
 # What is told also if there is none of it.
 ALWAYS = {*DONE.values(), "different", "refused", "failed"}
-
-# What reads a file, and tells its mark, if that is asked for.
-Task = Callable[[str], tuple[Record, Optional[Mark]]]
 
 
 class Incomplete(Exception):
@@ -59,7 +56,6 @@ class Run:
 
     @property
     def status(self) -> int:
-        """The exit status."""
         found = {it.status for it in self.records}
         return FAILED if "failed" in found else REFUSED if "refused" in found else self.own
 
@@ -83,7 +79,7 @@ class Run:
             report = stack.enter_context(sink_of(words.junit)) if words.junit else None
             reading = self.reading("kind", self.partners(found) if words.companions else None, words.strict)
             self.print_rest = self.print_end
-            self.read(found, reading.record, self.print_record)
+            self.read(in_order_of_names(found.files), reading.record, self.print_record)
             if report:
                 report.take(junit(self.records))
         self.print_end()
@@ -98,7 +94,6 @@ class Run:
         return partners
 
     def sum_up_checks(self) -> None:
-        """Prints what was counted of checks."""
         found = counts_of(self.records)
         self.sum_up({}, {it: found[it] for it in ("without_graph", "graph_not_accepted", "other_kind")})
 
@@ -130,20 +125,21 @@ class Run:
         is_renewed = words.incremental is not None and os.path.lexists(words.incremental)
         known = self.listed(words.incremental, is_empty=True) if is_renewed else {}
         entries: list[Entry] = []
+        marks: dict[str, Optional[Mark]] = {}
 
-        def task(name: str) -> tuple[Record, Mark | None]:
-            return renewed(name, words.form, reading.record, known.get(name))
+        def record(name: str) -> Record:
+            found, marks[name] = renewed(name, words.form, reading.record, known.get(name))
+            return found
 
-        def take(it: Record, mark: Mark | None) -> None:
+        def take(it: Record) -> None:
             if it.checksum:
-                entries.append(Entry(it.name, it.checksum, words.form, mark))
+                entries.append(Entry(it.name, it.checksum, words.form, marks[it.name]))
             if it.error or self.is_json:
                 self.tell(it)
 
         with contextlib.suppress(Incomplete), contextlib.ExitStack() as stack:
             target = stack.enter_context(sink_of(output)) if output else None
-            found = self.found()
-            self.each(found, task, take, [*in_order_of_names(found.files)])
+            self.read(self.found().files, record, take)
             if target and any(it.status == "failed" for it in self.records):
                 self.console.complain(line_with(output, after=": not written, since it would lack what failed"))
                 raise Incomplete
@@ -172,8 +168,7 @@ class Run:
             counts[status] += 1
             self.say(it, status, {"checksum": entries[it.name].checksum, "form": form})
 
-        named = Found(dict.fromkeys(entries), {})
-        self.each(named, lambda it: (reading.record(it), None), lambda it, _: take(it), [*entries])
+        self.read(dict.fromkeys(entries), reading.record, take)
         known = {os.path.abspath(it) for it in entries}
         for name, error in self.found().files.items():
             if not error and not os.path.lexists(name):
@@ -212,29 +207,30 @@ class Run:
     def same(self) -> None:
         """Prints groups of files that pose the same problem. A link to a file of a group is none of them."""
         groups: dict[str, dict[tuple[int, int], str]] = {}
+        marks: dict[str, Mark] = {}
         links, reading = 0, self.reading("checksum")
 
-        def task(name: str) -> tuple[Record, Mark | None]:
-            record = reading.record(name)
+        def record(name: str) -> Record:
+            found = reading.record(name)
             try:
-                return record, None if record.error else mark_of(name)
+                marks[name] = mark_of(name)
             except OSError as error:
                 # It has gone meanwhile.
-                return Record(name, error=Read(name, reason_of(error))), None
+                return found if found.error else Record(name, error=Read(name, reason_of(error)))
+            return found
 
-        def take(it: Record, mark: Mark | None) -> None:
+        def take(it: Record) -> None:
             nonlocal links
-            if not it.checksum or not mark:
+            if not it.checksum:
                 self.console.complain(line_of(it))
                 return
-            group, file = groups.setdefault(it.checksum, {}), (mark.device, mark.number)
+            group, file = groups.setdefault(it.checksum, {}), (marks[it.name].device, marks[it.name].number)
             links += file in group
             # A file itself comes before its links.
             if file not in group or os.path.islink(group[file]) and not os.path.islink(it.name):
                 group[file] = it.name
 
-        found = self.found()
-        self.each(found, task, take, [*in_order_of_names(found.files)])
+        self.read(self.found().files, record, take)
         same = [(sum_, sorted(it.values(), key=os.fsencode)) for sum_, it in groups.items() if len(it) > 1]
         if self.is_json:
             lines = (json.dumps({"checksum": sum_, "names": names}) + "\n" for sum_, names in same)
@@ -244,7 +240,6 @@ class Run:
         self.sum_up({}, {"groups": len(same), "links": links})
 
     def list(self) -> None:
-        """Prints what each file contains."""
         rows = 0
 
         def take(it: Record) -> None:
@@ -257,7 +252,7 @@ class Run:
             else:
                 self.console.print(line_with(it.name, after=f": {it.kind}") + text_of(it))
 
-        self.read(self.found(), self.reading("contents").record, take)
+        self.read(self.found().files, self.reading("contents").record, take)
         self.sum_up({})
 
     def compare(self) -> None:
@@ -286,7 +281,8 @@ class Run:
         words.form = older.form if older else words.form
         found = find(words.path, words.ending, words.exclude)
         self.others, self.excluded = len(found.others), found.excluded
-        self.read(found, self.reading("whole", self.partners(found)).record, lambda _: None)
+        partners = self.partners(found)
+        self.read(in_order_of_names(found.files), self.reading("whole", partners).record, lambda _: None)
         collection = Collection(tuple(self.records), found.others, found.excluded, words.form)
         changes = manifest_changes(older, collection.manifest) if older else None
         self.console.print(page_of_folder(collection, words.path[0], self.status, changes))
@@ -304,32 +300,29 @@ class Run:
         self.others += len(found.others)
         return found
 
-    def read(self, found: Found, record: Callable[[str], Record], take: Callable[[Record], None]) -> None:
-        """Reads files, several at the same time, and takes their records in the order of the names."""
-        self.each(found, lambda it: (record(it), None), lambda it, _: take(it), [*in_order_of_names(found.files)])
+    def read(self, files: Files, record: Callable[[str], Record], take: Callable[[Record], None]) -> None:
+        """Reads files, but for those with errors, several at the same time, and takes their records in this order."""
 
-    def each(self, found: Found, task: Task, take: Callable[[Record, Mark | None], None], names: Sequence[str]) -> None:
-        """Runs a task on each file, but for those with errors, and takes the results in the order of these names."""
-
-        def one(name: str) -> tuple[Record, Mark | None]:
-            error = found.files[name]
-            result = (Record(name, error=error), None) if error else task(name)
+        def one(name: str) -> Record:
+            error = files[name]
+            found = Record(name, error=error) if error else record(name)
             self.console.step()
-            return result
+            return found
 
-        def taken(result: tuple[Record, Mark | None]) -> None:
-            self.records.append(result[0])
-            take(*result)
+        def taken(it: Record) -> None:
+            self.records.append(it)
+            take(it)
 
+        names = [*files]
         size = sum(os.path.getsize(it) for it in names if os.path.isfile(it)) if self.console.is_terminal else 0
         self.console.expect(len(names), size)
         workers, ended = Workers(one, names, self.words.jobs), 0
         try:
             for at in range(len(names)):
-                result = workers.result(at, self.console.draw)
+                found = workers.result(at, self.console.draw)
                 ended += 1
-                taken(result)
-                if getattr(self.words, "exit_first", False) and result[0].error:
+                taken(found)
+                if getattr(self.words, "exit_first", False) and found.error:
                     self.unfinished = f"{ended} of {len(names)} done"
                     workers.stop()
                     break

@@ -25,8 +25,7 @@ from ..console import Console
 from ..errors import DnormError, Memory, Refused, Write
 from ..files import write_all
 from ..limits import heeding_signals
-from .part import ARC, BLOCK, Piece, Result, blocks, canon_part, lines, whole
-from .runs import canon, children
+from .runs import ARC, BLOCK, Piece, Result, blocks, canon, canon_part, children, lines, whole
 
 # A line whose first word is `p`.
 PROBLEM = re.compile(rb"^[ \t\r]*p[ \t\r].*", re.M)
@@ -112,7 +111,6 @@ class Parts:
         return Ended(2, f"{self.options.file}{what}")
 
     def tell(self, what: str) -> None:
-        """Says on a terminal what is done."""
         if self.console.is_terminal and what:
             self.console.complain(f"canon-in-parts: {what}\n")
 
@@ -282,7 +280,6 @@ class Parts:
 
 
 def pour(piece: Piece, to: BinaryIO) -> None:
-    """Writes bytes of a file into another one."""
     for block in blocks(piece):
         write_all(to, block)
 

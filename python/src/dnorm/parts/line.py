@@ -13,7 +13,7 @@ import tempfile
 from collections.abc import Iterator, Sequence
 from typing import Any, NoReturn
 
-from ..console import SIGNALS, Console, Stopped, has_output, heed, number
+from ..console import SIGNALS, Console, Stopped, has_output, heed, is_open, number
 from ..errors import DnormError, Memory, Write
 from ..files import reason_of
 from ..program import find_program, processors
@@ -50,7 +50,6 @@ class Parser(argparse.ArgumentParser):
 
 
 def parser() -> Parser:
-    """Returns the parser of the command line."""
     layout: dict[str, Any] = {"formatter_class": argparse.RawDescriptionHelpFormatter, "epilog": MORE}
     made = Parser(prog="canon-in-parts", allow_abbrev=False, description=ABOUT, **layout)
     add = made.add_argument
@@ -85,8 +84,7 @@ def version_of(program: str) -> str:
     return found.removeprefix("dnorm ")
 
 
-def run(words: Sequence[str], has_input: bool, is_open: bool) -> None:
-    """Runs the command."""
+def run(words: Sequence[str], has_input: bool, is_written: bool) -> None:
     found = parser().parse_args(words)
     program = os.path.abspath(found.program or find_program())
     version = version_of(program)
@@ -98,7 +96,7 @@ def run(words: Sequence[str], has_input: bool, is_open: bool) -> None:
     open_input(found.file, has_input)
     with folder_in(found.tmpdir) as at:
         try:
-            Parts(found, at, program, is_open).run()
+            Parts(found, at, program, is_written).run()
         except Memory as error:
             raise Ended(4, f"{found.file}{error.rest}") from error
         except Write as error:
@@ -145,16 +143,11 @@ def open_input(name: str, has_input: bool) -> None:
 
 def main(words: Sequence[str] | None = None) -> int:
     """Runs the command, and returns the exit status."""
-    try:
-        os.fstat(0)
-        has_input = True
-    except OSError:
-        has_input = False
-    is_open = has_output()
+    has_input, is_written = is_open(0), has_output()
     heed()
     status, line = 0, ""
     try:
-        run(sys.argv[1:] if words is None else words, has_input, is_open)
+        run(sys.argv[1:] if words is None else words, has_input, is_written)
     except Ended as ended:
         status, line = ended.status, ended.line
     except Stopped as stopped:
