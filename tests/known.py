@@ -73,8 +73,9 @@ ROADS_SHOWN = (
     b"kind sp\nnodes 3\nlines 7\npairs 5\npair 1 2 length 3\npair 2 1 length 4\npair 2 2 length 0\n"
     b"pair 2 3 length 9\npair 3 1 length -5\n"
 )
-# An arc of capacity 0, two parallel arcs, and the sink before the source.
+# An arc of capacity 0, two parallel arcs, and the sink before the source; and what `show` prints.
 CAPACITIES = b"p max 3 4\nn 3 t\nn 1 s\na 2 3 0\na 1 2 4\na 1 3 2\na 1 2 5\n"
+CAPACITIES_SHOWN = b"kind max\nnodes 3\nlines 4\nsource 1\nsink 3\npairs 2\npair 1 2 total 9\npair 1 3 total 2\n"
 # Forced units and free capacity; and the canonical texts in form 1 and in form 2.
 COSTS = next(of(it)[0] for it in CASES if it["id"] == "forced-remainder")
 COSTS_ONE = b"p min 2 5\na 1 2 1 1 1\na 1 2 1 1 2\na 1 2 0 2 0\na 1 2 0 4 1\na 1 2 0 1 3\n"
@@ -91,17 +92,15 @@ WIDE_SHOWN = (
     b"kind min\nnodes 2\nlines 2\nsupplies 0\npairs 1\n"
     b"pair 1 2 forced 9223372036854775807 cost -13835058055282163711 steps 0\n"
 )
+# An arc without capacity, and a flow of 0.
+IDLE = b"p min 2 2\nn 2 0\na 1 2 0 0 5\na 2 1 0 3 1\n"
 # Capacities of one pair that sum past the limit.
 FULL = next(of(it)[0] for it in CASES if it["id"] == "sum-above-max")
 
 # Runs of `show`. Standard input is the text that is named `-`.
 SHOWN = runs(
     ("show g.gr", ROADS, ROADS_SHOWN),
-    (
-        "show n.max",
-        CAPACITIES,
-        b"kind max\nnodes 3\nlines 4\nsource 1\nsink 3\npairs 2\npair 1 2 total 9\npair 1 3 total 2\n",
-    ),
+    ("show n.max", CAPACITIES, CAPACITIES_SHOWN),
     ("show h.min", COSTS, b"kind min\nnodes 2\nlines 3\nsupplies 0\npairs 1\npair 1 2 forced 2 cost 3 steps 3\n"),
     (
         "show -",
@@ -117,11 +116,7 @@ SHOWN = runs(
         b"pair 1 3 forced 0 cost 0 steps 1\npair 2 3 forced 0 cost 0 steps 1\npair 2 4 forced 0 cost 0 steps 1\n"
         b"pair 3 4 forced 0 cost 0 steps 1\n",
     ),
-    (
-        "show z.min",
-        b"p min 2 2\nn 2 0\na 1 2 0 0 5\na 2 1 0 3 1\n",
-        b"kind min\nnodes 2\nlines 2\nsupplies 0\npairs 1\npair 2 1 forced 0 cost 0 steps 1\n",
-    ),
+    ("show z.min", IDLE, b"kind min\nnodes 2\nlines 2\nsupplies 0\npairs 1\npair 2 1 forced 0 cost 0 steps 1\n"),
     ("show x.min", WIDE, WIDE_SHOWN),
     (
         "show y.min",
@@ -155,6 +150,8 @@ CHECKED = runs(
     ("check n.max", FULL, b"", b"n.max:5: 17 SumTooLarge\n", 2),
 )
 
+# A query that fits.
+QUERY = b"p aux sp p2p 1\nq 3 1\n"
 # Runs of `check` with a companion.
 FITTED = runs(
     ("check g.gr --with s.ss", (ROADS, b"p aux sp ss 1\ns 3\n"), b"accepted sp\nfits ss\nforms none\n"),
@@ -174,11 +171,7 @@ FITTED = runs(
     ("check g.gr --with q.p2p", (ROADS, b"p aux sp p2p 1\nq 1 4\n"), b"", b"q.p2p: 35 NotInGraph 4\n", 2),
     ("check g.gr --with c.co", (ROADS, b"p aux sp co 2\nv 9 0 0\nv 5 0 0\n"), b"", b"c.co: 35 NotInGraph 5\n", 2),
     ("check - --with s.ss", (ROADS_CANON, b"p aux sp ss 0\n"), b"accepted sp\nfits ss\nforms 1 2\n"),
-    (
-        "check --with=q.p2p g.gr",
-        {"g.gr": ROADS, "q.p2p": b"p aux sp p2p 1\nq 3 1\n"},
-        b"accepted sp\nfits p2p\nforms none\n",
-    ),
+    ("check --with=q.p2p g.gr", {"g.gr": ROADS, "q.p2p": QUERY}, b"accepted sp\nfits p2p\nforms none\n"),
     ("check g.gr --with c.co", (ROADS_CANON, b"p aux sp co 1\nv 3 -1 9\n"), b"accepted sp\nfits co\nforms 1 2\n"),
     ("check g.gr --with g.gr", ROADS, b"", b"g.gr: 36 NotKinds\n", 2),
     ("check g.gr --with x", (ROADS, b"x\n"), b"", b"x:1: 1 BadLine\n", 2),
@@ -196,7 +189,7 @@ PAIRS = runs(
     ("compare g.gr n.max", (ROADS, FULL), b"", b"n.max:5: 17 SumTooLarge\n", 2),
     ("compare missing n.max", {"n.max": FULL}, b"", b"missing: 31 Read\n", 4),
     ("compare l r", (ROADS, ROADS_CANON), b"same\n"),
-    ("compare l r", (b"p min 2 2\nn 2 0\na 1 2 0 0 5\na 2 1 0 3 1\n", b"p min 2 1\na 2 1 0 3 1\n"), b"same\n"),
+    ("compare l r", (IDLE, b"p min 2 1\na 2 1 0 3 1\n"), b"same\n"),
     ("compare l r", (b"p aux sp co 1\nv 2 0 0\n", b"p aux sp co 1\nv 2 0 0\n"), b"same\n"),
 )
 

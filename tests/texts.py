@@ -57,12 +57,8 @@ def lines_of(chance: Random, text: Text) -> list[list[str]]:
     heads: list[list[object]] = [["n", node, flow] for node, flow in text.flows.items()]
     heads += [["n", node, letter] for letter, node in text.terminals.items()]
     chance.shuffle(heads)
-    lines: list[list[object]] = [
-        ["p", *NAMES[text.kind], *counts],
-        *heads,
-        *([COUNTED[text.kind], *it] for it in text.items),
-    ]
-    return [[str(it) for it in line] for line in lines]
+    items = ([COUNTED[text.kind], *it] for it in text.items)
+    return [[str(it) for it in line] for line in [["p", *NAMES[text.kind], *counts], *heads, *items]]
 
 
 def spelled(chance: Random, lines: list[list[str]]) -> bytes:

@@ -42,25 +42,16 @@ WRAPPER = """
 #define _GNU_SOURCE
 #include <stdio.h>
 #include <stdlib.h>
+#include <string.h>
 #include <unistd.h>
 
 int main(int argc, char **argv) {
-    char *library = getenv("LD_PRELOAD"), *given = 0;
-    char **words = calloc(argc + 8, sizeof *words);
-    int count = 0;
-    words[count++] = "qemu-aarch64";
-    words[count++] = "-0";
-    words[count++] = "dnorm";
-    words[count++] = "-L";
-    words[count++] = SYSTEM;
-    if (library && asprintf(&given, "LD_PRELOAD=%s", library) > 0) {
-        words[count++] = "-E";
-        words[count++] = given;
-        unsetenv("LD_PRELOAD");
-    }
-    words[count++] = PROGRAM;
-    for (int i = FROM; i < argc; i++)
-        words[count++] = argv[i];
+    char *given = getenv("LD_PRELOAD"), **words = calloc(argc + 8, sizeof *words);
+    if (asprintf(&given, "LD_PRELOAD=%s", given ? given : "") < 0 || unsetenv("LD_PRELOAD"))
+        return 126;
+    char *const before[] = {"qemu-aarch64", "-0", "dnorm", "-L", SYSTEM, "-E", given, PROGRAM};
+    memcpy(words, before, sizeof before);
+    memcpy(words + 8, argv + FROM, (argc - FROM) * sizeof *words);
     execv(QEMU, words);
     return 126;
 }

@@ -50,14 +50,8 @@ LIBRARIES = f"{ROOT}/crates/dn_tests/out/dn_tests_tests"
 # The test for refused allocations.
 REFUSED = "memory::a_refused_growth"
 # The arguments of each run; `graph` and `ids` are names of two texts in the folder.
-COMMANDS = [
-    "canon graph",
-    "canon --form 2 graph",
-    "show graph",
-    "check graph",
-    "check graph --with ids",
-    "compare graph other",
-]
+COMMANDS = ["canon graph", "canon --form 2 graph", "show graph", "check graph", "check graph --with ids"]
+COMMANDS += ["compare graph other"]
 
 
 def graph(chance: random.Random, kind: str) -> str:

@@ -174,12 +174,8 @@ class Place:
         # A C file whose functions do nothing is compiled in no time.
         declared = DECLARED.findall(text_of(f"{ROOT}/c/dnorm.h"))
         bodies = {it: f"static {it} none; return none;" if it != "void" else "" for it, _, _ in declared}
-        lines = [
-            '#include "dnorm.h"',
-            *(f"{it} ({name}){words} {{ {bodies[it]} }}" for it, name, words in declared),
-            "",
-        ]
-        write(f"{self.folder}/c/out/libdnorm.c", "\n".join(lines))
+        functions = "".join(f"{it} ({name}){words} {{ {bodies[it]} }}\n" for it, name, words in declared)
+        write(f"{self.folder}/c/out/libdnorm.c", f'#include "dnorm.h"\n{functions}')
 
     def git(self, *words: str) -> None:
         who = {f"GIT_{one}_{it}": value for one in ["AUTHOR", "COMMITTER"] for it, value in WHO.items()}
@@ -214,13 +210,8 @@ class Made:
 
     def files(self) -> list[str]:
         """Returns the names of all files but SHA256SUMS, sorted."""
-        own = [
-            self.info,
-            self.source,
-            self.python_package,
-            *(f"dnorm-{self.version}{it}" for it in ["-objects.tar.gz", "-c.tar.gz", ".tgz"]),
-            *([f"dnorm-{self.version}-x86_64-windows.exe"] if shutil.which(MINGW) else []),
-        ]
+        ends = ["-objects.tar.gz", "-c.tar.gz", ".tgz", *["-x86_64-windows.exe"] * bool(shutil.which(MINGW))]
+        own = [self.info, self.source, self.python_package, *(f"dnorm-{self.version}{it}" for it in ends)]
         return sorted([*own, *(it for port in self.ports for it in port.files)])
 
     def release(self, place: Place) -> Answer:

@@ -97,15 +97,8 @@ class Tried:
         self.environment = {**os.environ, "XDG_CACHE_HOME": f"{top}/cache", "TMPDIR": self.left}
         for folder in [f"{top}/tools", self.folder, self.left]:
             os.makedirs(folder)
-        for path in [
-            "kit.txt",
-            "tools/kit.py",
-            "tools/prove",
-            "tools/prover.py",
-            "tools/wrong-bodies",
-            "tools/edits.py",
-            "tools/tally.py",
-        ]:
+        tools = ["edits.py", "kit.py", "prove", "prover.py", "tally.py", "wrong-bodies"]
+        for path in ["kit.txt", *(f"tools/{it}" for it in tools)]:
             shutil.copy(f"{ROOT}/{path}", f"{top}/{path}")
         make({f"{top}/{path}": text for path, text in CRATE.items()})
         self.words = [f"{top}/tools/wrong-bodies", "--checked"]
