@@ -17,7 +17,7 @@ import signal
 import subprocess
 import sys
 import time
-from collections.abc import Callable
+from collections.abc import Callable, Iterator
 from typing import Any
 
 import pytest
@@ -34,7 +34,7 @@ FILES += ["c/free.c", "c/dnorm-config.cmake", "c/dnorm-config-version.cmake", "c
 TOOLS = ["find-program.sh", "program", "source-sum", "kit.py", "prover.py", "build", "c-library"]
 FILES += [f"tools/{it}" for it in TOOLS]
 FILES += ["tools/link-program", "tools/released", "tools/hidden-object"]
-OUT = "crates/dnorm/out"
+OUT, SOURCE = "crates/dnorm/out", "crates/dnorm/src/main.rt"
 LIBRARY = "crates/dn_c/out/library"
 LIBRARIES = ["libdnorm.a", "libdnorm.so.3"]
 # What the kit has made here.
@@ -61,12 +61,10 @@ class Clone:
             os.makedirs(os.path.dirname(f"{folder}/{it}"), exist_ok=True)
             shutil.copy(f"{ROOT}/{it}", f"{folder}/{it}")
         for name, text in {
+            **dict.fromkeys(["crates/dn_low/src/lib.rt", "crates/dn_c/src/lib.rt", SOURCE], "// a source\n"),
             "crates.txt": "dn_low:\ndnorm: dn_low\ndn_c staticlib:\n",
-            "crates/dn_low/src/lib.rt": "// a source\n",
             "crates/dn_low/specs/State/Low.antt": "low : Nat\n",
             "crates/dn_low/proofs/low/Proof.antt": "proof = low\n",
-            "crates/dnorm/src/main.rt": "// a source\n",
-            "crates/dn_c/src/lib.rt": "// a source\n",
             "share/installed.txt": "".join(f"{it}\n" for it in INSTALLED),
             "docs/costs.txt": "",
         }.items():
@@ -105,6 +103,14 @@ class Clone:
         sums = run(["sha256sum", *sorted({*found} - {"SHA256SUMS"})], cwd=self.released).out
         self.write("released/SHA256SUMS", sums)
 
+    @contextlib.contextmanager
+    def other(self, name: str, text: str | bytes | None = None) -> Iterator[None]:
+        """Gives a file another text, or one more line, and at the end its own text again."""
+        kept = bytes_of(f"{self.folder}/{name}")
+        self.write(name, kept + b"\n" if text is None else text)
+        yield
+        self.write(name, kept)
+
     def run(self, name: str, *words: str, given: bytes = b"", path: str = WITHOUT_RT) -> Answer:
         """Runs a script of the clone from another folder, with this path of commands."""
         return run([f"{self.folder}/{name}", *words], given, cwd="/", env={**os.environ, "PATH": path})
@@ -139,28 +145,23 @@ def runs_built(clone: Clone, sources: str | bytes) -> None:
 
 def test_takes(clone: Clone) -> None:
     """When ./dnorm takes the released program."""
-    source, text = "crates/dnorm/src/main.rt", "// a source\n"
     runs("the first time", clone)
-    kept = bytes_of(f"{clone.folder}/tools/source-sum")
-    clone.write("tools/source-sum", "exit 1\n")
-    runs("which does not sum again", clone)
-    clone.write("tools/source-sum", kept)
+    with clone.other("tools/source-sum", "exit 1\n"):
+        runs("which does not sum again", clone)
     named, own = said(f"{clone.released}/x86_64/dnorm\n"), {**os.environ, "PATH": WITHOUT_RT}
     assert clone.run("tools/program") == named, "tools/program"
     assert run(["tools/program"], cwd=clone.folder, env=own) == named, "tools/program from the clone"
-    clone.write(source, text)
+    clone.write(SOURCE, "// a source\n")
     runs("a source with a later time", clone)
     for name, other in [
-        (source, "// another\n"),
+        (SOURCE, "// another\n"),
         ("crates.txt", "dn_low:\ndnorm:  dn_low\ndn_c staticlib:\n"),
         ("kit.txt", f"{KIT}x\n"),
     ]:
-        kept = bytes_of(f"{clone.folder}/{name}")
-        clone.write(name, other)
-        stops(f"another {name}", clone, NO_RT.replace(f"{KIT}'", f"{KIT}x'") if name == "kit.txt" else NO_RT)
-        wants = "dnorm: no program is built or released for these sources: tools/build proves and builds it\n"
-        assert clone.run("tools/program") == said("", wants, 125), f"tools/program, another {name}"
-        clone.write(name, kept)
+        with clone.other(name, other):
+            stops(f"another {name}", clone, NO_RT.replace(f"{KIT}'", f"{KIT}x'") if name == "kit.txt" else NO_RT)
+            wants = "dnorm: no program is built or released for these sources: tools/build proves and builds it\n"
+            assert clone.run("tools/program") == said("", wants, 125), f"tools/program, another {name}"
         runs(f"{name} as it was", clone)
     clone.write("crates/dn_more/src/lib.rt", "")
     runs("a crate that the program does not stand on", clone)
@@ -175,7 +176,7 @@ def test_takes(clone: Clone) -> None:
     os.remove(f"{clone.folder}/crates/dnorm/src/more.rt")
     runs("a source less, as before", clone)
     runs_built(clone, clone.run("tools/source-sum", "--list", "program").out)
-    clone.write(source, text)
+    clone.write(SOURCE, "// a source\n")
     runs("a built program that is older than a source", clone)
     shutil.rmtree(f"{clone.folder}/{OUT}")
     clone.write(OUT, "")
@@ -195,10 +196,7 @@ CHANGES = {
     "a new file": ("touch -d @9 $(dirname {})/more", "rm $(dirname {})/more"),
     "a new folder": ("mkdir $(dirname {})/new; touch $(dirname {})/new/more", "rm -r $(dirname {})/new"),
     "another name": ("mv {} {}.old", "mv {}.old {}"),
-    "a new part of a crate": (
-        "mkdir crates/dnorm/specs; touch crates/dnorm/specs/Lib.antt",
-        "rm -r crates/dnorm/specs",
-    ),
+    "a crate's new part": ("mkdir crates/dnorm/specs; touch crates/dnorm/specs/Lib.antt", "rm -r crates/dnorm/specs"),
 }
 DECIDING = ["dn_low/src/lib.rt", "dn_low/specs/State/Low.antt", "dn_low/proofs/low/Proof.antt", "dnorm/src/main.rt"]
 # A find that takes no list, as that of findutils before 4.9.
@@ -226,7 +224,7 @@ def test_moved(clone: Clone, words: str) -> None:
     assert run([*words.split(), clone.folder, f"{clone.folder} at another place"]) == said()
     clone.folder += " at another place"
     runs(words, clone)
-    clone.write("crates/dnorm/src/main.rt", "// another\n")
+    clone.write(SOURCE, "// another\n")
     stops(f"another source after {words}", clone, NO_RT)
 
 
@@ -240,10 +238,9 @@ def test_read_only(clone: Clone, tested: str) -> None:
         other = Clone(f"{place}/a clone", tested)
         for _ in range(2):
             assert run([f"{other.folder}/dnorm"], ROADS, **own) == said(ROADS_CANON), "as it was"
-            other.write("crates/dnorm/src/main.rt", "// another\n")
-            found = run([f"{other.folder}/dnorm"], ROADS, **own)
+            with other.other(SOURCE, "// another\n"):
+                found = run([f"{other.folder}/dnorm"], ROADS, **own)
             assert (found.out, found.status) == (b"", 125), "another source"
-            other.write("crates/dnorm/src/main.rt", "// a source\n")
             runs("by the other user", other)
 
 
@@ -267,29 +264,26 @@ class Git:
 def test_last_answer(clone: Clone) -> None:
     """Where git keeps a clone, and nobody can build, the last answer stands until git or released/ changes."""
     need("git")
-    git, source, program = Git(clone), "crates/dnorm/src/main.rt", bytes_of(f"{clone.folder}/tools/program")
+    git = Git(clone)
     runs("the first time", clone)
-    clone.write("tools/program", "#!/bin/sh\nexit 9\n")
-    runs("by the last answer", clone)
-    clone.write("tools/program", program)
-    clone.write(source, "// another\n")
+    with clone.other("tools/program", "#!/bin/sh\nexit 9\n"):
+        runs("by the last answer", clone)
+    clone.write(SOURCE, "// another\n")
     runs("a source that git does not know yet", clone)
     assert clone.run("tools/program").status == 125, "tools/program looks at each source"
     make({"bin/rt": "#!/bin/sh\nexit 1\n"}, 0o755)
     found = clone.run("dnorm", given=ROADS, path=f"{os.getcwd()}/bin:{WITHOUT_RT}")
     assert (found.out, found.status) == (b"", 125), "a source, where rt can build"
-    git.run("add", source)
+    git.run("add", SOURCE)
     stops("a source that git knows", clone, NO_RT)
-    git.run("checkout", "-q", "HEAD", "--", source)
+    git.run("checkout", "-q", "HEAD", "--", SOURCE)
     runs("a source as it was", clone)
     for name in [AT, "released/SHA256SUMS"]:
         time.sleep(0.1)
-        kept = bytes_of(f"{clone.folder}/{name}")
-        clone.write(name, b"x" + kept)
-        stops(f"another {name}", clone, CHANGED)
-        clone.write(name, kept)
+        with clone.other(name, b"x" + bytes_of(f"{clone.folder}/{name}")):
+            stops(f"another {name}", clone, CHANGED)
         runs(f"{name} as it was", clone)
-    runs_built(clone, "".join(f"{it}\0" for it in ["crates.txt", source]))
+    runs_built(clone, f"crates.txt\0{SOURCE}\0")
 
 
 @pytest.mark.alone
@@ -383,12 +377,10 @@ def test_packed(clone: Clone, tested: str) -> None:
     runs("a packed program, once more", clone)
     same = os.stat(f"{clone.folder}/{OUT}/released/mark-x86_64").st_mtime_ns == mark
     assert same, "it is not unpacked again"
-    clone.write("crates/dnorm/src/main.rt", "// another\n")
-    stops("another source of a packed program", clone, NO_RT)
-    clone.write("crates/dnorm/src/main.rt", "// a source\n")
+    with clone.other(SOURCE, "// another\n"):
+        stops("another source of a packed program", clone, NO_RT)
     runs("its source as it was", clone)
     kept = bytes_of(f"{clone.folder}/{name}")
-    clone.write(name, bytes([*kept[:5000], kept[5000] ^ 1, *kept[5001:]]))
     line = f"dnorm: {clone.folder}/{name} could not be unpacked to {clone.folder}/{OUT}/released/dnorm-x86_64\n"
     for changed in [bytes([*kept[:5000], kept[5000] ^ 1, *kept[5001:]]), kept[:-9]]:
         clone.write(name, changed)
@@ -398,7 +390,7 @@ def test_packed(clone: Clone, tested: str) -> None:
 
 def test_kits(clone: Clone) -> None:
     """Other programs that are named rt: nothing is proved, and both versions are told."""
-    clone.write("crates/dnorm/src/main.rt", "// another\n")
+    clone.write(SOURCE, "// another\n")
     path = f"{clone.folder}/bin:{WITHOUT_RT}"
     said = {
         "echo 'rattle-kit-14 logic 00'": "rattle-kit-14 logic 00",
@@ -428,7 +420,7 @@ def test_without_python(clone: Clone) -> None:
     for name in USED.split():
         if not os.path.lexists(f"{path}/{name}"):
             clone.link(f"bin/{name}", shutil.which(name, path=WITHOUT_RT) or "")
-    clone.write("crates/dnorm/src/main.rt", "// another\n")
+    clone.write(SOURCE, "// another\n")
     line = "dnorm: no program is released for these sources; a proof needs python3 and the kit "
     stops("another source without python3", clone, f"{line}'{KIT}': see docs/PROVED.md\n", path)
 
@@ -445,13 +437,11 @@ def test_library(clone: Clone) -> None:
     assert [os.path.exists(f"{prefix}/{it}") for it in places] == [True] * 3, "what is installed"
     assert run([f"{prefix}/bin/dnorm"], ROADS) == said(ROADS_CANON), "the installed program"
     for name in ["c/dnorm.map", "crates/dn_c/src/lib.rt"]:
-        kept = bytes_of(f"{clone.folder}/{name}")
-        clone.write(name, kept + b"\n")
-        assert clone.run("tools/c-library") == said("", NO_RT, 125), f"tools/c-library, another {name}"
-        line = "dnorm: no library is released for these sources: tools/c-library proves and builds it\n"
-        assert clone.run("tools/c-library", "--released") == said("", line, 125), f"--released, another {name}"
-        assert clone.run("install", prefix).status == 125, f"./install, another {name}"
-        clone.write(name, kept)
+        with clone.other(name):
+            assert clone.run("tools/c-library") == said("", NO_RT, 125), f"tools/c-library, another {name}"
+            line = "dnorm: no library is released for these sources: tools/c-library proves and builds it\n"
+            assert clone.run("tools/c-library", "--released") == said("", line, 125), f"--released, another {name}"
+            assert clone.run("install", prefix).status == 125, f"./install, another {name}"
     flip(f"{clone.released}/x86_64/libdnorm.a.gz")
     os.remove(f"{clone.folder}/c/out/built")
     line = "dnorm: released/ has other bytes than SHA256SUMS says: git restores it\n"
@@ -645,9 +635,7 @@ def test_compared(made_here: Clone) -> None:
     finds(clone, "another C library", "another gcc, linker or C library", 4, 0)
     clone.tell(linked_here(clone))
     for name, kind in [("crates/dnorm/src/main.rt", "program"), ("c/dnorm.map", "library")]:
-        kept = bytes_of(f"{clone.folder}/{name}")
-        clone.write(name, kept + b"\n")
-        finds(clone, f"another {name}", f"the {kind} was made from other sources", 4, 0)
-        clone.write(name, kept)
+        with clone.other(name):
+            finds(clone, f"another {name}", f"the {kind} was made from other sources", 4, 0)
     clone.write("kit.txt", f"{KIT}x\n")
     finds(clone, "another kit", "the program was made from other sources", 1, 0)
