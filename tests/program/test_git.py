@@ -62,65 +62,6 @@ class Repository:
         shown = [it for it in found.out.split(b"\n") if re.match(rb"[+-](?![+-])", it)]
         assert (shown, found.err, found.status) == (lines, b"", 0), f"git diff of {what}"
 
-    def hook(self) -> None:
-        """Tests the pre-commit hook."""
-        self.put("roads.gr", ROADS)
-        self.put("notes.txt", b"a 1 2 3\n")
-        self.commits("a first text")
-        self.put("a b:7.gr", b"x\n")
-        self.put("c.min", b"p min 1 1\n")
-        refused = b"a b:7.gr:1: 1 BadLine\n    line 1: x\nc.min:end: 20 TooFewLines\n"
-        refused += b"    declared 1, found 0: only a, s, q and v lines count\n0 accepted, 2 refused, 0 failed\n"
-        self.commits("refused texts", refused)
-        write(f"{self.top}/a b:7.gr", ROADS)
-        self.commits("what is staged still", refused)
-        self.put("a b:7.gr", ROADS)
-        self.git("rm", "-q", "--cached", "c.min")
-        self.commits("texts that are mended")
-        self.git("rm", "-q", "a b:7.gr")
-        self.commits("a removed text")
-        self.put("UP.GR", b"x\n")
-        os.chmod(f"{self.top}/UP.GR", 0o755)
-        self.git("add", "UP.GR")
-        refused = b"UP.GR:1: 1 BadLine\n    line 1: x\n" + ONE
-        self.commits("an executable text with a name in capitals", refused)
-        self.git("rm", "-q", "-f", "UP.GR")
-        os.symlink("notes.txt", f"{self.top}/link.gr")
-        self.git("add", "link.gr")
-        self.commits("a link to a refused text", b"link.gr:1: 2 EarlyLine\n    line 1: a 1 2 3\n" + ONE)
-        os.remove(f"{self.top}/link.gr")
-        os.symlink("roads.gr", f"{self.top}/link.gr")
-        self.git("add", "link.gr")
-        self.git("update-index", "--add", "--cacheinfo", f"160000,{40 * '1'},module.gr")
-        self.commits("a link and a submodule")
-        self.filtered()
-
-    def filtered(self) -> None:
-        """Tests the hook on a text that git stores elsewhere, as Git LFS does: the repository has a pointer."""
-        self.git("config", "filter.elsewhere.clean", "tee .git/stored > .git/last; echo pointer")
-        self.git("config", "filter.elsewhere.smudge", "cat .git/stored")
-        self.put(".gitattributes", b"*.gr diff=dnorm\n/stored.gr filter=elsewhere\n")
-        self.put("stored.gr", b"x\n")
-        assert self.git("cat-file", "blob", ":0:stored.gr").out == b"pointer\n", "what is staged"
-        self.commits("a refused text elsewhere", b"stored.gr:1: 1 BadLine\n    line 1: x\n" + ONE)
-        self.put("stored.gr", ROADS)
-        self.commits("a text elsewhere")
-
-    def textconv(self) -> None:
-        """Tests the script of `git diff`, by itself and called by git."""
-        rows = [("-a b.gr", ROADS, ROADS_CANON), ("x.gr", b"a\0 1\n", b"a\0 1\n"), ("e", b"", b"")]
-        rows += [("a.GR.GZ", gzip.compress(ROADS), ROADS_CANON), ("b.gr.gz", ROADS, ROADS_CANON)]
-        rows += [("cut.gr.gz", cut, cut) for cut in [gzip.compress(ROADS)[:-9]]]
-        for name, text, wanted in rows:
-            write(f"{self.top}/{name}", text)
-            assert self.run(f"{ROOT}/share/git/textconv", name) == Answer(wanted, b"", 0), f"textconv {name}"
-        write(f"{self.top}/roads.gr", ROADS_CANON)
-        self.differs("the same problem", [])
-        write(f"{self.top}/roads.gr", ROADS.replace(b"a 2 1 4", b"a 2 1 5"))
-        self.differs("another problem", [b"-a 2 1 4", b"+a 2 1 5"])
-        write(f"{self.top}/roads.gr", b"x\n" + ROADS_CANON)
-        self.differs("a refused text", [b"+x"])
-
 
 @pytest.fixture
 def repository(tested: str, c_library: str, folder: str) -> Repository:
@@ -129,13 +70,66 @@ def repository(tested: str, c_library: str, folder: str) -> Repository:
 
 
 def test_hook(repository: Repository) -> None:
-    repository.hook()
+    """The hook that is called before a commit."""
+    repository.put("roads.gr", ROADS)
+    repository.put("notes.txt", b"a 1 2 3\n")
+    repository.commits("a first text")
+    repository.put("a b:7.gr", b"x\n")
+    repository.put("c.min", b"p min 1 1\n")
+    refused = b"a b:7.gr:1: 1 BadLine\n    line 1: x\nc.min:end: 20 TooFewLines\n"
+    refused += b"    declared 1, found 0: only a, s, q and v lines count\n0 accepted, 2 refused, 0 failed\n"
+    repository.commits("refused texts", refused)
+    write(f"{repository.top}/a b:7.gr", ROADS)
+    repository.commits("what is staged still", refused)
+    repository.put("a b:7.gr", ROADS)
+    repository.git("rm", "-q", "--cached", "c.min")
+    repository.commits("texts that are mended")
+    repository.git("rm", "-q", "a b:7.gr")
+    repository.commits("a removed text")
+    repository.put("UP.GR", b"x\n")
+    os.chmod(f"{repository.top}/UP.GR", 0o755)
+    repository.git("add", "UP.GR")
+    refused = b"UP.GR:1: 1 BadLine\n    line 1: x\n" + ONE
+    repository.commits("an executable text with a name in capitals", refused)
+    repository.git("rm", "-q", "-f", "UP.GR")
+    os.symlink("notes.txt", f"{repository.top}/link.gr")
+    repository.git("add", "link.gr")
+    repository.commits("a link to a refused text", b"link.gr:1: 2 EarlyLine\n    line 1: a 1 2 3\n" + ONE)
+    os.remove(f"{repository.top}/link.gr")
+    os.symlink("roads.gr", f"{repository.top}/link.gr")
+    repository.git("add", "link.gr")
+    repository.git("update-index", "--add", "--cacheinfo", f"160000,{40 * '1'},module.gr")
+    repository.commits("a link and a submodule")
+
+
+def test_filter(repository: Repository) -> None:
+    """The hook on a text that git stores elsewhere, as Git LFS does: the repository has a pointer."""
+    repository.git("config", "filter.elsewhere.clean", "tee .git/stored > .git/last; echo pointer")
+    repository.git("config", "filter.elsewhere.smudge", "cat .git/stored")
+    repository.put(".gitattributes", b"*.gr diff=dnorm\n/stored.gr filter=elsewhere\n")
+    repository.put("stored.gr", b"x\n")
+    assert repository.git("cat-file", "blob", ":0:stored.gr").out == b"pointer\n", "what is staged"
+    repository.commits("a refused text elsewhere", b"stored.gr:1: 1 BadLine\n    line 1: x\n" + ONE)
+    repository.put("stored.gr", ROADS)
+    repository.commits("a text elsewhere")
 
 
 def test_textconv(repository: Repository) -> None:
+    """The script of `git diff`, by itself and called by git."""
     repository.put("roads.gr", ROADS)
     repository.commits("a first text")
-    repository.textconv()
+    rows = [("-a b.gr", ROADS, ROADS_CANON), ("x.gr", b"a\0 1\n", b"a\0 1\n"), ("e", b"", b"")]
+    rows += [("a.GR.GZ", gzip.compress(ROADS), ROADS_CANON), ("b.gr.gz", ROADS, ROADS_CANON)]
+    rows += [("cut.gr.gz", cut, cut) for cut in [gzip.compress(ROADS)[:-9]]]
+    for name, text, wanted in rows:
+        write(f"{repository.top}/{name}", text)
+        assert repository.run(f"{ROOT}/share/git/textconv", name) == Answer(wanted, b"", 0), f"textconv {name}"
+    write(f"{repository.top}/roads.gr", ROADS_CANON)
+    repository.differs("the same problem", [])
+    write(f"{repository.top}/roads.gr", ROADS.replace(b"a 2 1 4", b"a 2 1 5"))
+    repository.differs("another problem", [b"-a 2 1 4", b"+a 2 1 5"])
+    write(f"{repository.top}/roads.gr", b"x\n" + ROADS_CANON)
+    repository.differs("a refused text", [b"+x"])
 
 
 def test_push(repository: Repository) -> None:
