@@ -6,11 +6,6 @@ from setuptools import Extension, setup
 
 SOURCE = "c/libdnorm.c"
 # It is no module of Python, and is loaded by its path.
-LIBRARY = Extension(
-    "dnorm.libdnorm",
-    [SOURCE],
-    depends=["c/dnorm.h"],
-    define_macros=[("DNORM_SHARED", None)],
-)
+LIBRARY = Extension("dnorm.libdnorm", [SOURCE], depends=["c/dnorm.h"], define_macros=[("DNORM_SHARED", None)])
 
 setup(ext_modules=[LIBRARY] if os.path.exists(SOURCE) else [])

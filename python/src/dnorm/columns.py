@@ -37,7 +37,6 @@ LEAST, MOST = -(2**63), 2**63 - 1
 
 
 def numpy_here() -> Any:
-    """Returns the module numpy, or None where it is missing."""
     try:
         return importlib.import_module("numpy")
     except ImportError:

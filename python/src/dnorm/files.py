@@ -194,7 +194,7 @@ class Text:
             self.text = failed(error)
         self.is_file = isinstance(self.text, io.FileIO)
         self.is_compressed = self._opened is not None and not self.is_file
-        self._pieces: Iterator[bytes] | None = None
+        self._pieces = self._all(self.text)
         self._is_stopped = False
 
     def _begun(self) -> io.FileIO | Iterator[bytes]:
@@ -225,8 +225,6 @@ class Text:
     def next_piece(self) -> bytes | None:
         if self._is_stopped:
             raise Read(self.name, "it is no longer wanted")
-        if self._pieces is None:
-            self._pieces = self._all(self.text)
         with failing(Read, self.name):
             piece = next(self._pieces, None)
         self.size += len(piece or b"")

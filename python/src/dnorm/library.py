@@ -239,7 +239,6 @@ class Held:
 
 
 def number_of(value: Any) -> Any:
-    """Returns the number of a value, or None if there is none."""
     return (value.high << 64) + value.low if value.known else None
 
 

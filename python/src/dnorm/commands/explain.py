@@ -67,7 +67,6 @@ def explain(words: Sequence[str]) -> int:
 
 
 def say(fd: int, told: str, causes: Iterable[str]) -> None:
-    """Prints a line with its causes below it."""
     text = "".join(f"{it}\n" for it in [told, *(f"    {it}" for it in causes)])
     os.write(fd, os.fsencode(for_terminal(text) if os.isatty(fd) else text))
 
@@ -121,8 +120,6 @@ def causes_of(told: str) -> Iterator[str]:
 
 
 def causes_in(name: str, line: int | None, number: int, node: int | None) -> Iterator[str]:
-    """Yields what shows the cause of a refusal in a file."""
-
     if name == "-" or not os.path.isfile(name):
         return
     with contextlib.suppress(OSError), open(name, "rb", buffering=0) as file:

@@ -51,7 +51,6 @@ def page(title: str, is_good: bool, sentence: str, parts: Iterable[str], data: o
 
 
 def shared(name: str) -> str:
-    """Returns a file that pages have."""
     path = placed(name, WEB)
     if not path:
         raise NoProgram(name, "this copy of the package lacks it: wheels, archives and ./install bring it")

@@ -106,7 +106,6 @@ def annotation_of(it: Record) -> str:
 
 
 def annotation(level: str, properties: dict[str, str], text: str) -> str:
-    """Returns a line for GitHub."""
     fields = ",".join(f"{key}={escaped(value, NO_PROPERTY)}" for key, value in properties.items())
     return f"::{level} {fields}::{escaped(text, NO_MESSAGE)}\n"
 

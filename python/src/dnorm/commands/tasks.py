@@ -330,7 +330,7 @@ class Run:
             rest = workers.stop()
 
             def take_rest() -> None:
-                for _, it in rest:
+                for it in rest:
                     taken(it)
                 self.unfinished = f"{ended + len(rest)} of {len(names)} done"
 

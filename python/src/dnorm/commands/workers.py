@@ -70,10 +70,9 @@ class Workers(Generic[Item, Result]):
             raise found
         return found
 
-    def stop(self) -> list[tuple[int, Result]]:
-        """Lets no thread begin another item. Returns the results that were not taken, with the places of their
-        items."""
+    def stop(self) -> list[Result]:
+        """Lets no thread begin another item. Returns the results that were not taken, in the order of the items."""
         self._is_stopped = True
         while not self._came.empty():
             self._done.update([self._came.get()])
-        return [(at, it) for at, it in sorted(self._done.items()) if not isinstance(it, BaseException)]
+        return [it for _, it in sorted(self._done.items()) if not isinstance(it, BaseException)]

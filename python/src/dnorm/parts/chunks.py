@@ -18,6 +18,7 @@ from argparse import Namespace
 from collections.abc import Iterator, Sequence
 from concurrent.futures import FIRST_EXCEPTION, ThreadPoolExecutor, wait
 from dataclasses import dataclass
+from io import BytesIO
 from itertools import chain, islice
 from typing import BinaryIO, NamedTuple
 
@@ -148,12 +149,11 @@ class Parts:
         """Moves all lines before the first arc line, at byte `at` of this chunk, from the chunks into the head."""
         pieces = [*map(whole, paths[:first]), Piece(paths[first], 0, at)]
         with open(self.head, "wb", buffering=0) as head:
-            for piece in pieces:
-                pour(piece, head)
+            pour(head, *pieces)
         before = line_count(pieces[-1])
         rest = f"{self.folder}/rest"
         with open(rest, "wb", buffering=0) as file:
-            pour(Piece(paths[first], at, os.path.getsize(paths[first])), file)
+            pour(file, Piece(paths[first], at, os.path.getsize(paths[first])))
         for path in paths[:first]:
             os.remove(path)
         os.replace(rest, paths[first])
@@ -271,27 +271,22 @@ class Parts:
             if not self.has_output:
                 raise OSError
             write_all(out, f"p {self.kind} {self.nodes} {count}\n".encode())
-            pour(Piece(at, end, os.path.getsize(at)), out)
+            pour(out, Piece(at, end, os.path.getsize(at)))
             for (_, path), result in zip(parts, results):
-                pour(Piece(f"{path}.arcs", result.start, result.size), out)
+                pour(out, Piece(f"{path}.arcs", result.start, result.size))
                 os.remove(f"{path}.arcs")
         except OSError as error:
             raise Write("out") from error
 
 
-def pour(piece: Piece, to: BinaryIO) -> None:
-    for block in blocks(piece):
+def pour(to: BinaryIO, *pieces: Piece) -> None:
+    for block in chain.from_iterable(map(blocks, pieces)):
         write_all(to, block)
 
 
 def end_of_line(block: bytes, number: int) -> int:
     """Returns where the line of this number ends, or else the end of the block."""
-    if block.count(b"\n") < number:
-        return len(block)
-    at = 0
-    for _ in range(number):
-        at = block.index(b"\n", at) + 1
-    return at
+    return len(block) if block.count(b"\n") < number else sum(map(len, islice(BytesIO(block), number)))
 
 
 def end_of(path: str, number: int) -> int:
@@ -301,7 +296,6 @@ def end_of(path: str, number: int) -> int:
 
 
 def line_count(piece: Piece) -> int:
-    """Returns how many line ends these bytes of a file have."""
     return sum(block.count(b"\n") for block in lines(piece))
 
 

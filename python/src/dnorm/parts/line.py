@@ -142,7 +142,6 @@ def open_input(name: str, has_input: bool) -> None:
 
 
 def main(words: Sequence[str] | None = None) -> int:
-    """Runs the command, and returns the exit status."""
     has_input, is_written = is_open(0), has_output()
     heed()
     status, line = 0, ""

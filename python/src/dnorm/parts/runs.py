@@ -149,7 +149,6 @@ class Result(NamedTuple):
 
 
 def whole(path: str) -> Piece:
-    """Returns all of a file."""
     return Piece(path, 0, os.path.getsize(path))
 
 
