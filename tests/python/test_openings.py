@@ -1,16 +1,22 @@
 """Tests that commands and calls of the Python package open each file once: pipes are read rightly, and a file that is
 replaced or written meanwhile gives the answer of one of its states, or a failure."""
 
+import itertools
 import json
 import os
+import random
+import sys
 from collections.abc import Callable
 from typing import Any
 
+import pytest
 from known import ROADS, ROADS_CANON
-from needs import leave_out, need_proc
-from shared import bytes_of, python_with, run, write
+from needs import need_proc
+from reading import GRAPHS, MOST, Text
+from shared import bytes_of, write
 from test_calls import READS, error_of, told
-from test_folders import ENVIRONMENT, by_shell
+from test_folders import by_shell
+from texts import lines_of
 
 import dnorm
 import dnorm.files
@@ -74,8 +80,8 @@ class Meanwhile:
         return found
 
 
-def record_of(name: str) -> Record:
-    found = Reading(tells="contents").record(name)
+def record_of(name: str, form: dnorm.answers.Form = 1) -> Record:
+    found = Reading(form, tells="contents").record(name)
     if found.error:
         raise found.error
     return found._replace(seconds=0)
@@ -122,53 +128,36 @@ def test_meanwhile() -> None:
 
 CHANGED = "Read: t.gr: 31 Read (it changed while it was read)"
 HINT = "NODES 2: nodes count from 1"
-# A process that says how `differences` and `list` describe random texts, with numpy or without it.
-DESCRIBED = """
-import random, sys
-sys.path.insert(0, sys.argv[2])
-if sys.argv[1] == "without":
-    sys.modules["numpy"] = None
-import dnorm
-from dnorm.records import Reading
-chance = random.Random(64)
-LIMITS = {"sp": [(-2**63, 2**63 - 1)], "max": [(0, 2**40)], "min": [(0, 3), (3, 2**62), (-2**63, 2**63 - 1)]}
-LIMITS |= {"co": [(-2**63, 2**63 - 1)] * 2, "ss": [(1, 9)], "p2p": [(1, 9)] * 2}
-def text(kind, nodes, count):
-    begin = f"p {kind} {nodes}" if kind in ("sp", "max", "min") else f"p aux sp {kind}"
-    heads = {"max": f"n {nodes} s\\nn 1 t\\n", "min": f"n {chance.choice([1, nodes])} 5\\n"}.get(kind, "")
-    letter, ends = {"co": ("v", 1), "ss": ("s", 0), "p2p": ("q", 0)}.get(kind, ("a", 2))
-    near = [1, 2, 3, nodes - 1, nodes]
-    rows = {(*(chance.choice(near) for _ in range(ends)), at if ends == 2 else 0) for at in range(count)}
-    rows = sorted(rows, key=lambda it: it[:1]) if ends == 1 else list(rows) if ends else [()] * count
-    line = lambda row: " ".join(map(str, [*row[:ends], *(few(*it) for it in LIMITS[kind])]))
-    lines = [f"{letter} {line(it)}\\n" for it in ({it[0]: it for it in rows}.values() if ends == 1 else rows)]
-    return f"{begin} {len(lines)}\\n{heads}{''.join(lines)}".encode()
-def few(least, most):
-    return chance.choice([least, most, least + 1, chance.randint(least, most)]) if chance.random() < 0.3 else least + 2
-for kind in LIMITS:
-    for nodes in [4, 10**6, 2**62]:
-        for count in [0, 1, 5, 40]:
-            texts = [text(kind, nodes, count) for _ in range(2)]
-            open("left", "wb").write(texts[0])
-            try:
-                found = dnorm.differences(*texts), dnorm.differences(*texts, 2)
-                one = Reading(2, tells="contents").record("left")
-                print([vars(it) for it in found], one._replace(seconds=0))
-            except dnorm.Refused as error:
-                print(error)
-"""
+# The least and the greatest values of arcs and items.
+WIDE = (-MOST - 1, MOST)
+LIMITS = {"sp": [WIDE], "max": [(0, 2**40)], "min": [(0, 3), (3, 2**62), WIDE], "co": [WIDE, WIDE], "ss": [(1, 9)]}
+LIMITS["p2p"] = [(1, 9), (1, 9)]
 
 
-def test_with_numpy() -> None:
+def wide_text(chance: random.Random, kind: str, nodes: int, count: int) -> bytes:
+    """Returns a text with arcs of few pairs of nodes, or with items, often of numbers at their limits."""
+    text = Text(kind, nodes, terminals={"s": nodes, "t": 1} if kind == "max" else {})
+    text.flows = {chance.choice([1, nodes]): 5} if kind == "min" else {}
+    ends = 2 if kind in GRAPHS else int(kind == "co")
+    keys = [tuple(chance.choices([1, 2, 3, nodes - 1, nodes], k=ends)) for _ in range(count)]
+    for key in dict.fromkeys(keys) if kind == "co" else keys:
+        chosen = ([low + 2] * 9 + [low, high, low + 1, chance.randint(low, high)] for low, high in LIMITS[kind])
+        text.items.append((*key, *map(chance.choice, chosen)))
+    return "".join(f"{' '.join(it)}\n" for it in lines_of(chance, text)).encode()
+
+
+@pytest.mark.parametrize("reader", ["numpy"], indirect=True)
+def test_with_numpy(monkeypatch: pytest.MonkeyPatch) -> None:
     """That `differences` and `list` say the same with numpy and without it."""
-    python = python_with("numpy")
-    if not python:
-        leave_out("numpy")
-    environment = {**os.environ, **ENVIRONMENT}
-    words = [python, "-c", DESCRIBED]
-    with_, without = (run([*words, it, ENVIRONMENT["PYTHONPATH"]], env=environment) for it in ("with", "without"))
-    assert (without.err, without.status) == (b"", 0), "without numpy"
-    for one, other in zip(with_.out.splitlines(), without.out.splitlines()):
-        assert one.decode() == other.decode(), "a line with numpy and without it"
-    assert (with_.err, with_.status, len(with_.out)) == (b"", 0, len(without.out)), "with numpy"
-    assert without.out.count(b"kind") > 40, "few are refused"
+    chance, accepted = random.Random(64), 0
+    for kind, nodes, count in itertools.product(LIMITS, [4, 10**6, 2**62], [0, 1, 5, 40]):
+        texts = [wide_text(chance, kind, nodes, count) for _ in range(2)]
+        write("left", texts[0])
+        calls: list[Callable[[], object]] = [lambda: vars(dnorm.differences(*texts)), lambda: record_of("left", 2)]
+        calls.append(lambda: vars(dnorm.differences(*texts, 2)))
+        found = [*map(told, calls)]
+        with monkeypatch.context() as patched:
+            patched.setitem(vars(sys)["modules"], "numpy", None)
+            assert [*map(told, calls)] == found, texts
+        accepted += "kind" in found[0]
+    assert accepted > 40, "few are refused"
