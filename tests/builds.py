@@ -39,10 +39,7 @@ def solver(name: str, library: str, folder: str) -> str:
     """Returns a solver of c/examples, built with the archive below a prefix. One needs LEMON."""
     if name == "least_cost.cc" and not os.path.exists("/usr/include/lemon/network_simplex.h"):
         leave_out("LEMON")
-    made = f"{folder}/{name}.out"
-    words = [f"-I{library}/include", "-o", made, f"{ROOT}/c/examples/{name}", f"{library}/lib/libdnorm.a"]
-    compiled(*SOLVERS[name], *words)
-    return made
+    return with_archive(library, f"{folder}/{name}.out", *SOLVERS[name], f"{ROOT}/c/examples/{name}")
 
 
 def by_rustc(library: str, folder: str, *programs: str) -> None:
@@ -96,6 +93,12 @@ def compiled(*words: str) -> None:
     need(words[0])
     warnings = ["-O1", "-g", "-Wall", "-Wextra", "-Wpedantic", "-Werror"]
     assert run([words[0], *warnings, *words[1:]], limit=5 * LIMIT) == said(), words
+
+
+def with_archive(library: str, made: str, *words: str) -> str:
+    """Compiles a program with the headers and the archive below a prefix, and returns its path."""
+    compiled(*words, f"-I{library}/include", "-o", made, f"{library}/lib/libdnorm.a")
+    return made
 
 
 def by_cmake(folder: str, prefix: str) -> None:

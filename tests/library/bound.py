@@ -4,31 +4,18 @@ with its handle."""
 import ctypes
 from typing import Any, NamedTuple
 
-from dnorm import library
-from dnorm.library import HANDLE, Count, Handle, Place
+from dnorm.library import ADDRESS, FUNCTIONS, HANDLE, I64, SIZE, U64, Count, Given, Handle, Place, struct
 
 WRONG_CALL, NOT_BOTH = 40, 255
 KINDS = ["", "min", "max", "sp", "ss", "p2p", "co"]
-
-
-class Arc(ctypes.Structure):
-    _fields_ = [(name, ctypes.c_int64) for name in ("tail", "head", "a", "b", "c")]
-
-
-class Item(ctypes.Structure):
-    _fields_ = [(name, ctypes.c_int64) for name in ("id", "a", "b")]
-
-
-class Row(ctypes.Structure):
-    _fields_ = [("line", ctypes.c_uint64), *((name, ctypes.c_int64) for name in ("tail", "head", "a", "b", "c"))]
-
-
-BYTES = [ctypes.c_void_p, ctypes.c_size_t]
-# Each function: what it returns, and its arguments. The package has those that it calls.
-FUNCTIONS: dict[str, tuple[Any, ...]] = {
-    **library.FUNCTIONS, "text": (Count, HANDLE, ctypes.c_size_t, *BYTES),
-    "lines": (library.Given, HANDLE, ctypes.c_char_p, ctypes.c_size_t, *BYTES),
-}  # fmt: skip
+Arc = struct(tail=I64, head=I64, a=I64, b=I64, c=I64)
+Item = struct(id=I64, a=I64, b=I64)
+Row = struct(line=U64, tail=I64, head=I64, a=I64, b=I64, c=I64)
+# Functions that get texts and rooms in another way than those of the package: what they return, and their arguments.
+OTHERS = {
+    "text": (Count, HANDLE, SIZE, ADDRESS, SIZE),
+    "lines": (Given, HANDLE, ctypes.c_char_p, SIZE, ADDRESS, SIZE),
+}
 
 
 class Answer(NamedTuple):
@@ -65,10 +52,9 @@ class Library:
     def __init__(self, path: str) -> None:
         loaded = ctypes.CDLL(path)
         self.calls: dict[str, Any] = {}
-        for name, (result, *arguments) in FUNCTIONS.items():
-            call = getattr(loaded, f"dnorm_{name}")
+        for name, (result, *arguments) in {**FUNCTIONS, **OTHERS}.items():
+            self.calls[name] = call = getattr(loaded, f"dnorm_{name}")
             call.restype, call.argtypes = result, arguments
-            self.calls[name] = call
 
     def __getattr__(self, name: str) -> Any:
         return self.calls[name]
@@ -84,7 +70,7 @@ class Library:
 
     def arc_lines(self, text: bytes, piece: int, room: int) -> tuple[Rows, int, int]:
         """Returns the arc lines of a text that is fed in pieces, and the first line that has a fault by itself."""
-        reader, found, rows = Handle(), library.Given(), (Row * room)()
+        reader, found, rows = Handle(), Given(), (Row * room)()
         assert self.lines_begin(reader).code == 0
         lines, at, all_bytes = Rows(), 0, text + b"\n"
         while at < len(all_bytes) and found.code == 0:

@@ -12,18 +12,18 @@ import shutil
 import subprocess
 
 import pytest
-from bound import FUNCTIONS
-from builds import GIVEN, compiled, refusal_lines, sentences_of, solver, version_of, with_little_memory
+from builds import GIVEN, compiled, refusal_lines, sentences_of, solver, version_of, with_archive, with_little_memory
 from known import CANONICAL, COSTS, FLOWS, ROADS, ROADS_CANON
 from needs import need, need_proc, pass_over
 from shared import ROOT, run, said, text_of, write
 
-from dnorm.library import ABI
+from dnorm.library import ABI, FUNCTIONS
 
 pytestmark = [pytest.mark.whole, pytest.mark.usefixtures("folder")]
 VERSION, INTERFACE = (re.compile(rf"^#define DNORM_{it} (\d+)$", re.M) for it in ("VERSION", "ABI"))
 DECLARED = re.compile(r"^\w+ (dnorm_\w+)\(", re.M)
 SOURCES = f"{ROOT}/tests/library"
+TOOLS = ["cc", "-std=c99", f"{SOURCES}/library_tools.c"]
 # valgrind, and how it says that it found something.
 CHECKERS = {
     "memcheck": ["valgrind", "-q", "--error-exitcode=9", "--leak-check=full", "--show-leak-kinds=all"],
@@ -230,11 +230,8 @@ def large_texts() -> dict[str, bytes]:
 
 @pytest.fixture(scope="module")
 def in_c(c_library: str, tmp_path_factory: pytest.TempPathFactory) -> str:
-    built = f"{tmp_path_factory.mktemp('c')}/c"
-    wraps = [f"-Wl,--wrap={it}" for it in ("malloc", "realloc", "free")]
-    words = ["-std=c99", f"-I{c_library}/include", "-o", built, f"{SOURCES}/library.c", f"{c_library}/lib/libdnorm.a"]
-    compiled("cc", *words, *wraps, "-pthread")
-    return built
+    more = ["-pthread", *(f"-Wl,--wrap={it}" for it in ("malloc", "realloc", "free"))]
+    return with_archive(c_library, f"{tmp_path_factory.mktemp('c')}/c", "cc", "-std=c99", *more, f"{SOURCES}/library.c")
 
 
 @pytest.mark.parametrize("words, out, checkers", CALLS, ids=[it[0] for it in CALLS])
@@ -316,8 +313,7 @@ def test_two_files(c_library: str, words: str, header: str) -> None:
     end = "cc" if "++" in words else "c"
     for name, text in [("uses", USES), ("other", OTHER)]:
         write(f"{name}.{end}", f"#include <{header}>\n{text}")
-    more = ["-o", "two", f"uses.{end}", f"other.{end}", f"{c_library}/lib/libdnorm.a"]
-    compiled(*words.split(), f"-I{c_library}/include", *more)
+    with_archive(c_library, "two", *words.split(), f"uses.{end}", f"other.{end}")
     assert run(["./two"]) == said()
 
 
@@ -361,8 +357,7 @@ def test_plugin(c_library: str, folder: str) -> None:
     """A plugin that is linked with the archive works, and exports none of its functions."""
     need("nm")
     write("plugin.c", PLUGIN)
-    words = ["-std=c99", "-shared", "-fPIC", "-o", "plugin.so", "plugin.c", f"{c_library}/lib/libdnorm.a"]
-    compiled("cc", f"-I{c_library}/include", *words, "-Wl,-z,defs")
+    with_archive(c_library, "plugin.so", "cc", "-std=c99", "-shared", "-fPIC", "-Wl,-z,defs", "plugin.c")
     assert run(["nm", "-D", "--defined-only", "plugin.so"]).out.decode().split()[2::3] == ["plugin_reads"]
     reads_text = ctypes.CDLL(f"{folder}/plugin.so").plugin_reads
     reads_text.argtypes = [ctypes.c_char_p, ctypes.c_size_t]
@@ -372,10 +367,7 @@ def test_plugin(c_library: str, folder: str) -> None:
 @pytest.fixture(scope="module")
 def tools(c_library: str, tmp_path_factory: pytest.TempPathFactory) -> str:
     """A program that uses the functions of dnorm_tools.h."""
-    built = f"{tmp_path_factory.mktemp('tools')}/tools"
-    words = [f"-I{c_library}/include", "-o", built, f"{SOURCES}/library_tools.c", f"{c_library}/lib/libdnorm.a"]
-    compiled("cc", "-std=c99", *words)
-    return built
+    return with_archive(c_library, f"{tmp_path_factory.mktemp('tools')}/tools", *TOOLS)
 
 
 def test_sentences(tools: str, tested: str) -> None:
@@ -404,8 +396,7 @@ def test_star(tools: str, text: bytes) -> None:
 
 def test_endless(c_library: str, folder: str, tested: str) -> None:
     """A file without an end is read no more often than DNORM_READS says, and one with an end to that."""
-    words = [f"-I{c_library}/include", "-o", "tools", f"{SOURCES}/library_tools.c", f"{c_library}/lib/libdnorm.a"]
-    compiled("cc", "-std=c99", "-DDNORM_READS=20", *words)
+    with_archive(c_library, "tools", *TOOLS, "-DDNORM_READS=20")
     ended = said(f"32 {sentences_of(tested)[32]}\n", status=2)
     for how in ["fd", "file", "path", "lines"]:
         assert run(["./tools", "read", how, "/dev/zero"]) == ended, how
