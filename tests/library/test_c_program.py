@@ -104,18 +104,11 @@ def test_symbols(folder: str) -> None:
     assert VARIABLES.findall(run(["objdump", "-h", "libdnorm.o"]).out.decode()) == []
 
 
-@pytest.mark.parametrize(
-    "lines",
-    [
-        "#undef __BYTE_ORDER__\n#define __BYTE_ORDER__ __ORDER_BIG_ENDIAN__",
-        "#undef UINTPTR_MAX\n#define UINTPTR_MAX 0xFFFFFFFF",
-    ],
-    ids=["big endian", "pointers of 32 bits"],
-)
-def test_other_systems(folder: str, lines: str) -> None:
+@pytest.mark.parametrize("macro, other", [("__BYTE_ORDER__", "__ORDER_BIG_ENDIAN__"), ("UINTPTR_MAX", "0xFFFFFFFF")])
+def test_other_systems(folder: str, macro: str, other: str) -> None:
     """Where the file cannot run, one line says so."""
     need("gcc")
-    write("other.h", f"#include <stdint.h>\n{lines}\n")
+    write("other.h", f"#include <stdint.h>\n#undef {macro}\n#define {macro} {other}\n")
     found = run(["gcc", "-w", "-fsyntax-only", "-include", "other.h", c_file(folder)])
     assert found.err.count(b" error: ") == 1 and b"is for little endian systems with pointers of 64 bits" in found.err
 
@@ -210,11 +203,8 @@ def at_length(tested: str) -> str:
 @pytest.mark.parametrize("name", ["answers", "host", "hostile", "memory", "samples", "search"])
 def test_as_program(at_length: str, name: str) -> None:
     """The tests of the program, but for the one line of its version."""
-    passes(
-        at_length,
-        f"{ROOT}/tests/program/test_{name}.py",
-        "--deselect=tests/program/test_host.py::test_command[--version]",
-    )
+    version = "--deselect=tests/program/test_host.py::test_command[--version]"
+    passes(at_length, f"{ROOT}/tests/program/test_{name}.py", version)
 
 
 def test_as_library(at_length: str, folder: str) -> None:
@@ -223,16 +213,11 @@ def test_as_library(at_length: str, folder: str) -> None:
     prefix, library = f"{folder}/prefix", c_file(folder)
     assert run([f"{ROOT}/tools/c-library", prefix], limit=None).status == 0
     shared = f"{prefix}/lib/libdnorm.so.{ABI}"
-    linking = [
-        "-DDNORM_SHARED",
-        "-shared",
-        f"-Wl,-soname,libdnorm.so.{ABI}",
-        f"-Wl,--version-script={ROOT}/c/dnorm.map",
-    ]
+    linking = [f"-Wl,-soname,libdnorm.so.{ABI}", f"-Wl,--version-script={ROOT}/c/dnorm.map", "-Wl,-z,defs,-z,now"]
     for line in [
         ["gcc", "-O2", "-fPIC", "-c", library],
         ["ar", "rcs", "again.a", "libdnorm.o"],
-        ["gcc", "-O2", "-fPIC", *linking, "-Wl,-z,defs", "-o", shared, library],
+        ["gcc", "-O2", "-fPIC", "-DDNORM_SHARED", "-shared", *linking, "-o", shared, library],
     ]:
         assert run(line, limit=None) == said()
     shutil.move("again.a", f"{prefix}/lib/libdnorm.a")

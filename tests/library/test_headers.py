@@ -203,6 +203,7 @@ def test_exported(c_library: str) -> None:
     dynamic = run(["readelf", "-d", shared]).out.decode()
     assert re.findall(r"NEEDED.*\[(.*)\]", dynamic) == ["libc.so.6"]
     assert re.findall(r"SONAME.*\[(.*)\]", dynamic) == [f"libdnorm.so.{ABI}"]
+    assert "BIND_NOW" in dynamic
 
 
 def check(words: list[str], out: str | bytes, checkers: list[str], status: int = 0, given: bytes = b"") -> None:

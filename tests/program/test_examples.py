@@ -20,7 +20,8 @@ from typing import Any
 import pytest
 from needs import leave_out, need_proc, pass_over
 from refusal_table import refusals, with_example
-from shared import LIMIT, OF_GIT, ROOT, Answer, links_listed, listed, python_with, run, said, source_of, text_of, write
+from shared import LIMIT, OF_GIT, ROOT, Answer, bytes_of, links_listed, listed, make, python_with, run, said, source_of
+from shared import text_of, write
 
 README, REFUSALS = "README.md", "docs/REFUSALS.md"
 PAGES = [README, "docs/MANUAL.md", "docs/FILES.md", "docs/LIBRARY.md", REFUSALS]
@@ -123,11 +124,9 @@ class Examples:
     def install(self, tested: str, made: str) -> None:
         """Installs below ~/.local what `./install` installs, and makes the folder that fresh folders are copies of."""
         for mode, place, to in listed():
-            path, source = f"{self.folder}/home/.local/{to}", source_of(place, tested, made)
+            source = source_of(place, tested, made)
             if os.path.exists(source) or is_there("libdnorm"):
-                os.makedirs(os.path.dirname(path), exist_ok=True)
-                shutil.copy(source, path)
-                os.chmod(path, mode)
+                make({f"{self.folder}/home/.local/{to}": bytes_of(source)}, mode)
         for to, target in links_listed().items() if is_there("libdnorm") else ():
             os.symlink(target, f"{self.folder}/home/.local/{to}")
         os.mkdir(f"{self.folder}/fresh")

@@ -15,7 +15,7 @@ from collections.abc import Callable
 import pytest
 from known import ROADS
 from needs import leave_out, pass_over, terminal
-from shared import LIMIT, ROOT, Answer, listed, run, said, source_of, write
+from shared import LIMIT, ROOT, Answer, bytes_of, listed, make, run, said, source_of, write
 
 EXPLAIN = f"{ROOT}/dnorm-explain"
 pytestmark = pytest.mark.usefixtures("folder")
@@ -195,9 +195,7 @@ def prefix(tested: str, tmp_path_factory: pytest.TempPathFactory) -> str:
     made = str(tmp_path_factory.mktemp("prefix"))
     for mode, place, to in listed():
         if place.startswith("python/") or place in ("dnorm", "dnorm-explain", "dnorm-files"):
-            os.makedirs(os.path.dirname(f"{made}/{to}"), exist_ok=True)
-            shutil.copy(source_of(place, tested), f"{made}/{to}")
-            os.chmod(f"{made}/{to}", mode)
+            make({f"{made}/{to}": bytes_of(source_of(place, tested))}, mode)
     return made
 
 

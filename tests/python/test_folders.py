@@ -36,6 +36,12 @@ def module(*words: str | bytes, **more: Any) -> Answer:
     return run([*MODULE, *words], env={**os.environ, **ENVIRONMENT}, **more)
 
 
+def prints(words: str | list[str], out: str, err: str = "", status: int = 0, **more: Any) -> None:
+    """`python3 -m dnorm` prints this with these arguments, and ends with this status."""
+    found = module(*(words.split() if isinstance(words, str) else words), **more)
+    assert found == said(out, err, status), words
+
+
 def started(*words: str, **more: Any) -> "subprocess.Popen[bytes]":
     """Starts `python3 -m dnorm` with these arguments."""
     return subprocess.Popen([*MODULE, *words], env={**os.environ, **ENVIRONMENT}, **more)
@@ -138,15 +144,15 @@ def again(lines: str) -> str:
 def test_check(words: str, out: str, count: str, status: int) -> None:
     """Which files are checked, in which order, and the statuses."""
     make_set()
-    assert module("check", *words.split()) == said(out, f"{again(out)}{count}\n", status)
+    prints(f"check {words}", out, f"{again(out)}{count}\n", status)
     quiet = "".join(it for it in out.splitlines(True) if ": accepted " not in it)
-    assert module("check", "-q", *words.split()) == said(quiet, f"{count}\n", status), "-q"
+    prints(["check", "-q", *words.split()], quiet, f"{count}\n", status)
 
 
 def test_check_here() -> None:
     make_set()
     lines, count = LINES.replace("set/", "./"), "11 accepted, 2 refused, 0 failed, 4 other files\n"
-    assert module("check", ".", cwd="set") == said(lines, again(lines) + count, 2)
+    prints("check .", lines, again(lines) + count, 2, cwd="set")
 
 
 @pytest.mark.parametrize("words", WRONG)
@@ -178,9 +184,8 @@ def test_permission() -> None:
     os.chmod("set/s.ss", 0)
     no = ": 31 Read (Permission denied)\n"
     lines = f"set/a/b{no}set/a/flow.min: accepted min\nset/a/x.GR: accepted sp\nset/s.ss{no}"
-    found = module("check", "set/a", "set/s.ss", preexec_fn=give_up_rights)
     count = "2 accepted, 0 refused, 2 failed, 1 other file\n"
-    assert found == said(lines, again(lines) + count, 4), "without permission"
+    prints("check set/a set/s.ss", lines, again(lines) + count, 4, preexec_fn=give_up_rights)
     make({"mute/d.gr": ROADS, "mute/d.ss": b"p aux sp ss 1\ns 9\n", "mute/e.ss": b"p aux sp ss 1\ns 9\n"})
     os.chmod("mute", 0o311)
     words = ["check", "--companions", "mute/d.gr", "mute/d.ss", "mute/e.ss"]
@@ -206,7 +211,7 @@ def test_odd_names() -> None:
         write(name, f"p sp {at // 2} 0\n")
     count = f"{len(ODD)} accepted, 0 refused, 0 failed\n"
     accepted = "".join(f"{ODD[it]}: accepted sp\n" for it in names)
-    assert module("check", "--", *names) == said(accepted, count, 0), "odd names"
+    prints(["check", "--", *names], accepted, count)
     found = module("check", "--json", "--", *names)
     told = [json.loads(it)["name"] for it in found.out.splitlines()[:-1]]
     assert told == names, "odd names in JSON"
@@ -216,14 +221,11 @@ def test_odd_names() -> None:
     cases = [str(it.get("name")) for it in ElementTree.parse("report").iter("testcase")]
     wanted = [os.fsencode(it).decode("utf-8", "backslashreplace").replace("\x01", r"\x01") for it in names]
     assert cases == wanted, "odd names in XML"
-    found = module("manifest", "--output", "list", "--", *names)
-    assert found == said("", f"{len(ODD)} listed, 0 refused, 0 failed\n", 0), "a manifest of odd names"
-    found = module("manifest", "--verify", "list")
+    prints(["manifest", "--output", "list", "--", *names], "", f"{len(ODD)} listed, 0 refused, 0 failed\n")
     same = "".join(f"{ODD[it]}: same\n" for it in names)
-    assert found == said(same, f"{len(ODD)} the same, 0 different, 0 refused, 0 failed\n", 0), "odd names verified"
+    prints("manifest --verify list", same, f"{len(ODD)} the same, 0 different, 0 refused, 0 failed\n")
     pairs = ["".join(f"{ODD[it]}\n" for it in names[at : at + 2]) for at in range(0, len(names) - 1, 2)]
-    found = module("same", "--", *names)
-    assert found == said("\n".join(pairs), count.replace("\n", ", 5 groups\n"), 0), "odd names in groups"
+    prints(["same", "--", *names], "\n".join(pairs), count.replace("\n", ", 5 groups\n"))
 
 
 def test_reports() -> None:
@@ -310,7 +312,7 @@ def test_many() -> None:
     told = [it for it in lines.splitlines() if "accepted" not in it]
     causes = ["    line 3: a 1 2 x\n    Scale to whole numbers; remove a fraction that is 0\n" for _ in told]
     end = "".join(f"{it}\n{cause}" for it, cause in zip(told, causes))
-    assert module("check", "many") == said(lines, f"{end}1980 accepted, 20 refused, 0 failed\n", 2), "2,000 files"
+    prints("check many", lines, f"{end}1980 accepted, 20 refused, 0 failed\n", 2)
 
 
 def on_terminal(*words: str) -> tuple[str, int]:
@@ -427,12 +429,10 @@ def test_known_so_far(stand_in: str) -> None:
     os.remove("1.gr")
     write("1.gr", ROADS)
     for option in ["-x", "--exit-first"]:
-        found = module("check", option, *names)
         lines = [*(f"{it}.gr: accepted sp\n" for it in range(3)), "3.gr:1: 1 BadLine\n"]
         cause = "3.gr:1: 1 BadLine\n    line 1: bad\n3 accepted, 1 refused, 0 failed, 4 of 6 done\n"
-        assert found == said("".join(lines), cause, 2), f"check {option}"
-    wanted_ = said("0.gr: accepted sp\n1.gr: accepted sp\n", "2 accepted, 0 refused, 0 failed\n")
-    assert module("check", "-x", "0.gr", "1.gr") == wanted_, "check -x of good files"
+        prints(["check", option, *names], "".join(lines), cause, 2)
+    prints("check -x 0.gr 1.gr", "0.gr: accepted sp\n1.gr: accepted sp\n", "2 accepted, 0 refused, 0 failed\n")
 
 
 def hidden() -> list[str]:
@@ -491,7 +491,6 @@ def test_no_library(stand_in: str) -> None:
             found = module(*words)
         is_told = found.err.startswith(b"/none: cannot be used (/none: cannot open shared object file")
         assert (found.out, is_told, found.err.count(b"\n"), found.status) == (b"", True, 1, 4), f"{words} by no library"
-    with standing_in(stand_in, CODE=30):
-        found = module("check", "set/roads.gr", "set/a-b.gr")
     lines = "set/a-b.gr: 30 Memory\nset/roads.gr: 30 Memory\n"
-    assert found == said(lines, f"{again(lines)}0 accepted, 0 refused, 2 failed\n", 4), "little memory"
+    with standing_in(stand_in, CODE=30):
+        prints("check set/roads.gr set/a-b.gr", lines, f"{again(lines)}0 accepted, 0 refused, 2 failed\n", 4)

@@ -10,7 +10,7 @@ import pytest
 from known import COSTS, FLOWS, ROADS
 from shared import bytes_of, make, run, said, text_of, write
 from test_calls import READS, python
-from test_folders import MISSING, SET, hidden, make_set, module
+from test_folders import MISSING, SET, hidden, make_set, module, prints
 
 import dnorm
 
@@ -54,16 +54,13 @@ def test_manifests(tested: str) -> None:
     for form in "12":
         lines = "".join(f"{sum_of(tested, text, form)}  {name}\n" for name, text in accepted.items())
         told = f"{refused}11 listed, 2 refused, 0 failed, 4 other files\n"
-        found = module("manifest", "--form", form, "set")
-        assert found == said(f"# form {form}, 11 files\n{lines}", told, 2), f"a manifest of form {form}"
+        prints(f"manifest --form {form} set", f"# form {form}, 11 files\n{lines}", told, 2)
         same = "".join(f"{name}: same\n" for name in accepted)
         # The last two are of earlier versions.
         for head in [f"# form {form}, 11 files\n", f"# form {form}\n", *([""] if form == "1" else [])]:
             write("list", head + lines)
-            found = module("manifest", "--verify", "list")
             told = "" if head else f"list: {UNKNOWN_FORM}\n"
-            count = f"{told}11 the same, 0 different, 0 refused, 0 failed\n"
-            assert found == said(same, count, 0), f"form {form} verified, head {head!r}"
+            prints("manifest --verify list", same, f"{told}11 the same, 0 different, 0 refused, 0 failed\n")
     changes = [("set/flow.min", FLOWS, ": differs", 1), ("set/s.ss", b"p\n", ":1: 4 UnknownProblem", 2)]
     changes.append(("set/roads.gr.gz", b"", ": 31 Read (the compressed data end too early)", 4))
     for name, text, what, status in changes:
@@ -81,8 +78,8 @@ def test_no_manifests() -> None:
         write("other", with_sums(other))
         wanted = f"other: 31 Read ({with_sums(reason)})\n"
         for words in [["--verify", "other"], *([["--incremental", "other", "b.gr"]] if "H" in other else [])]:
-            assert module("manifest", *words) == said("", wanted, 4), f"{other!r} as a manifest, {words}"
-    assert module("manifest", "--verify", "missing") == said("", MISSING, 4), "no manifest"
+            prints(["manifest", *words], "", wanted, 4)
+    prints("manifest --verify missing", "", MISSING, 4)
     for name, reason in {"/dev/full": "No space left on device", "no/x": "No such file or directory"}.items():
         found = module("manifest", "--output", name, "b.gr")
         assert (found.err, found.status) == (f"{name}: 33 Write ({reason})\n".encode(), 4), f"a manifest in {name}"
@@ -96,14 +93,14 @@ def test_joined_manifests() -> None:
     module("manifest", "--incremental", "one", "b.gr", odd)
     module("manifest", "--output", "two", "c.gr")
     count = "3 the same, 0 different, 0 refused, 0 failed\n"
-    for order in ["one two", "two one"]:
-        write("both", b"".join(map(bytes_of, order.split())))
-        assert module("manifest", "--verify", "both", "-q") == said("", count, 0), f"{order} together"
-    write("sorted", b"".join(sorted(bytes_of("both").splitlines(True))))
-    assert module("manifest", "--verify", "sorted", "-q") == said("", count, 0), "sorted lines"
+    for first, second in [("one", "two"), ("two", "one")]:
+        write(f"{first}-{second}", bytes_of(first) + bytes_of(second))
+        prints(f"manifest --verify {first}-{second} -q", "", count)
+    write("sorted", b"".join(sorted(bytes_of("one-two").splitlines(True))))
+    prints("manifest --verify sorted -q", "", count)
     for packed in ["both.gz", "both.xz"]:
         module("manifest", "--output", packed, "b.gr", odd, "c.gr")
-        assert module("manifest", "--verify", packed, "-q") == said("", count, 0), packed
+        prints(f"manifest --verify {packed} -q", "", count)
     write("plain", bytes_of("both.gz"))
     found = module("manifest", "--verify", "plain")
     assert found.status == 4 and found.err.startswith(b"plain: 31 Read ("), "a compressed manifest of another name"
@@ -116,20 +113,17 @@ def test_kept_manifests() -> None:
     before = bytes_of("list")
     os.rename("set/b.gr", "b.gr")
     os.symlink("nowhere", "set/b.gr")
-    lines = "set/b.gr: 31 Read (No such file or directory)\nlist: not written, since it would lack what failed\n"
-    lines += "2 listed, 0 refused, 1 failed\n"
     for target in ["list", "new"]:
-        wanted = lines.replace("list: ", f"{target}: ")
-        found = module("manifest", "--output", target, "set")
-        assert found == said("", wanted, 4), f"a manifest in {target} while a file fails"
+        wanted = (
+            f"set/b.gr: 31 Read (No such file or directory)\n{target}: not written, since it would lack what failed\n"
+        )
+        wanted += "2 listed, 0 refused, 1 failed\n"
+        prints(f"manifest --output {target} set", "", wanted, 4)
     assert (bytes_of("list"), os.path.exists("new"), hidden()) == (before, False, []), "the manifest"
     os.replace("b.gr", "set/b.gr")
-    found = module("manifest", "--verify", "list", "-q", "set")
-    assert found == said("", "3 the same, 0 different, 0 refused, 0 failed\n", 0), "the manifest verified"
+    prints("manifest --verify list -q set", "", "3 the same, 0 different, 0 refused, 0 failed\n")
     write("set/c.gr", b"x\n")
-    found = module("manifest", "--output", "list", "set")
-    lines = "set/c.gr:1: 1 BadLine\n2 listed, 1 refused, 0 failed\n"
-    assert found == said("", lines, 2), "a manifest beside a refused file"
+    prints("manifest --output list set", "", "set/c.gr:1: 1 BadLine\n2 listed, 1 refused, 0 failed\n", 2)
     assert len(bytes_of("list").splitlines()) == 3, "its lines"
 
 
@@ -167,13 +161,13 @@ def test_renewed() -> None:
     os.utime("set/past.gr", ns=(-(10**18), -(10**18)))
     time.sleep(AGE)
     make({"set/fresh.gr": ROADS})
-    assert module(*BEGIN) == said("", "7 listed, 0 refused, 0 failed\n", 0), "a first manifest"
+    prints(BEGIN, "", "7 listed, 0 refused, 0 failed\n")
     lines = text_of("list").splitlines()
     marked = [it[66:].partition("\t")[0] for it in lines if "\t# " in it]
     assert marked == [f"set/{it}.gr" for it in ("a", "b", "c", "d", "link")], "files with marks"
     # Where a run takes long, the file is no longer fresh.
     make({"set/fresh.gr": ROADS})
-    assert module(*BEGIN) == said("", "2 listed, 5 unchanged, 0 refused, 0 failed\n", 0), "a second one"
+    prints(BEGIN, "", "2 listed, 5 unchanged, 0 refused, 0 failed\n")
     rewritten("set/a.gr", other)
     moved("aside.gr", "set/b.gr")
     times = os.stat("f/link.gr")
@@ -181,8 +175,7 @@ def test_renewed() -> None:
     os.remove("set/link.gr")
     os.symlink("../g/link.gr", "set/link.gr")
     os.remove("set/c.gr")
-    found = module(*BEGIN)
-    assert found == said("", "5 listed, 1 unchanged, 0 refused, 0 failed\n", 0), "files that were replaced"
+    prints(BEGIN, "", "5 listed, 1 unchanged, 0 refused, 0 failed\n")
     sums = {it[66:].partition("\t")[0]: it[:64] for it in text_of("list").splitlines()[1:]}
     old, new = dnorm.checksum(ROADS), dnorm.checksum(other)
     wanted = {"a": new, "b": new, "d": old, "fresh": old, "link": new, "past": old}

@@ -22,7 +22,7 @@ from known import COSTS, FLOWS, ROADS, ROADS_CANON
 from needs import leave_out
 from shared import ROOT, bytes_of, make, python_with, run, said, write
 from test_calls import BOTH, COMPRESS, PACKAGE, READS, error_of, python, standing_in, told
-from test_folders import ENVIRONMENT, module, on_terminal
+from test_folders import ENVIRONMENT, module, on_terminal, prints
 from test_records import records_of
 
 import dnorm
@@ -87,11 +87,11 @@ def test_causes() -> None:
     write("t.gr", long + b"x" * 100_000 + b"\n")
     error = error_of(lambda: dnorm.check("t.gr"))
     assert (error.line, error.text) == (300_001, "x" * 200), "a line behind others"
-    shown = module("check", "--output-format", "github", "t.gr", "missing,:%.gr")
     begin = f"::error file=t.gr,line=300001,title=dnorm%3A 1 BadLine::t.gr:300001: 1 BadLine%0A{dnorm.REFUSALS[1][1]}"
     lines = f"{begin}%0Aline 300001: {'x' * 200}\n"
     missing = "::error file=missing%2C%3A%25.gr::missing,:%25.gr: 31 Read (No such file or directory)\n"
-    assert shown == said(missing + lines, "0 accepted, 1 refused, 1 failed\n", 4), "--output-format github"
+    count = "0 accepted, 1 refused, 1 failed\n"
+    prints("check --output-format github t.gr missing,:%.gr", missing + lines, count, 4)
 
 
 # Files that are not what their names say, with the hint that they have.
@@ -245,24 +245,22 @@ def test_names_given() -> None:
     lines["a/y\nz.gr"] = "\\a/y\\nz.gr: accepted sp\n"
     all_ = "".join(lines[it] for it in sorted(lines))
     write("list", "a/y\nz.gr\0b.min\0a/x.gr")
-    for words, given, out, status in [
-        ("check -", b"b.min\na/x.gr\n", lines["a/x.gr"] + lines["b.min"], 0),
-        ("check -", b"b.min\na/x.gr", lines["a/x.gr"] + lines["b.min"], 0),
-        ("check - a/x.gr", b"b.min\n", lines["a/x.gr"] + lines["b.min"], 0),
-        ("check -", b"a\nb.min\n", all_, 0),
-        ("check --files0-from -", b"a\0b.min\0", all_, 0),
-        ("check --files0-from list", b"", all_, 0),
-        ("check --files0-from list -", b"b.min\n", all_, 0),
+    for words, given, out in [
+        ("check -", b"b.min\na/x.gr\n", lines["a/x.gr"] + lines["b.min"]),
+        ("check -", b"b.min\na/x.gr", lines["a/x.gr"] + lines["b.min"]),
+        ("check - a/x.gr", b"b.min\n", lines["a/x.gr"] + lines["b.min"]),
+        ("check -", b"a\nb.min\n", all_),
+        ("check --files0-from -", b"a\0b.min\0", all_),
+        ("check --files0-from list", b"", all_),
+        ("check --files0-from list -", b"b.min\n", all_),
     ]:
-        found = module(*words.split(), given=given)
-        count = f"{out.count(': accepted ')} accepted, 0 refused, 0 failed\n"
-        assert found == said(out, count, status), f"{words} < {given!r}"
+        prints(words, out, f"{out.count(': accepted ')} accepted, 0 refused, 0 failed\n", given=given)
     for words, name, reason in [
         ("check -", "-", "it names no file"),
         ("list --files0-from -", "-", "it names no file"),
         ("same --files0-from none", "none", "No such file or directory"),
     ]:
-        assert module(*words.split()) == said("", f"{name}: 31 Read ({reason})\n", 4), words
+        prints(words, "", f"{name}: 31 Read ({reason})\n", 4)
     found = module("check", "-", given=b"\nb.min\n")
     is_told = found.out.startswith(b": 31 Read (No such file or directory)\n")
     assert (is_told, found.status) == (True, 4), "a name without a character"
@@ -302,9 +300,8 @@ def test_time_limits(stand_in: str) -> None:
     signal.signal(signal.SIGALRM, kept)
     kinds = [dnorm.check("t.gr", timeout=60).kind, dnorm.read("t.gr", timeout=60).kind]
     assert (dnorm.canon("t.gr", timeout=60), kinds) == (ROADS_CANON, ["sp", "sp"]), "calls in time"
-    found = module("check", "--timeout", "0.5", "t.gr", "pipe.gr")
-    lines = "pipe.gr: took more than 0.5 seconds\n"
-    assert found == said(f"{lines}t.gr: accepted sp\n", f"{lines}1 accepted, 0 refused, 1 failed\n", 4), "--timeout"
+    late, count = "pipe.gr: took more than 0.5 seconds\n", "1 accepted, 0 refused, 1 failed\n"
+    prints("check --timeout 0.5 t.gr pipe.gr", f"{late}t.gr: accepted sp\n", late + count, 4)
 
 
 def ring(*_: object) -> None:
@@ -394,15 +391,14 @@ def test_folders_of_manifests() -> None:
     make({"set/below/new.gr": ROADS, "set/bad.gr": b"x\n"})
     lines = "set/a.gr: gone\nset/b.min: differs\nset/c.gr: same\n"
     count = "1 the same, 1 different, 0 refused, 0 failed, 1 gone"
-    assert module("manifest", "--verify", "list") == said(lines, f"{count}\n", 1), "what is gone"
+    prints("manifest --verify list", lines, f"{count}\n", 1)
     more = "set/bad.gr: not listed\nset/below/new.gr: not listed\n"
     for path in ["set", "./set/", os.path.abspath("set")]:
-        found = module("manifest", "--verify", "list", path)
         lines_ = lines + more.replace("set/", os.path.join(path, ""))
-        assert found == said(lines_, f"{count}, 2 not listed, 1 other file\n", 1), f"what {path} has"
-    found = module("manifest", "--verify", "list", "-q", "--exclude", "bad.gr", "set")
+        prints(f"manifest --verify list {path}", lines_, f"{count}, 2 not listed, 1 other file\n", 1)
     lines = lines.replace("set/c.gr: same\n", "") + "set/below/new.gr: not listed\n"
-    assert found == said(lines, f"{count}, 1 not listed, 1 other file, 1 excluded\n", 1), "-q"
+    count += ", 1 not listed, 1 other file, 1 excluded\n"
+    prints("manifest --verify list -q --exclude bad.gr set", lines, count, 1)
     records = records_of("manifest", "--verify", "list", "--json", "set", "none")[0]
     wanted_ = {"set/a.gr": "gone", "set/b.min": "differs", "set/c.gr": "same", "none": "failed"}
     wanted_ |= dict.fromkeys(["set/bad.gr", "set/below/new.gr"], "not listed")
@@ -421,8 +417,7 @@ def test_links() -> None:
     os.symlink("b.gr", "set/a.gr")
     os.link("set/sub/c.gr", "set/sub/d.gr")
     os.symlink("one.min", "set/also-one.min")
-    found = module("same", "set")
-    assert found == said("set/b.gr\nset/sub/c.gr\n", "6 accepted, 0 refused, 0 failed, 1 group, 3 links\n", 0), "same"
+    prints("same set", "set/b.gr\nset/sub/c.gr\n", "6 accepted, 0 refused, 0 failed, 1 group, 3 links\n")
     wanted = {"checksum": dnorm.checksum(ROADS), "names": ["set/b.gr", "set/sub/c.gr"]}
     assert records_of("same", "--json", "set")[0] == [wanted], "same --json"
 
@@ -476,7 +471,7 @@ def test_lists() -> None:
         below = "".join(f"    {it}\n" for it in told_of)
         lines += f"set/{name}: {kind}\n{below}"
     count = "8 listed, 1 refused, 0 failed\n"
-    assert module("list", "set") == said(lines, f"set/x.gr:1: 1 BadLine\n{count}", 2), "list"
+    prints("list set", lines, f"set/x.gr:1: 1 BadLine\n{count}", 2)
     records = records_of("list", "--json", "set")[0]
     names = [*((f"set/{name}", sums[name]) for name in rows), ("set/x.gr", None)]
     assert [(it["name"], it["checksum"]) for it in records] == names, "list --json"
@@ -548,8 +543,7 @@ COMPARED: list[tuple[bytes, bytes, str, list[str]]] = [
 def test_comparisons(tested: str) -> None:
     """Tests `compare` on mistakes of writers, and the repr of what `differences` returns."""
     for left, right, options, lines in COMPARED:
-        write("left", left)
-        write("right", right)
+        make({"left": left, "right": right})
         first = run([tested, "compare", "left", "right"])
         wanted = said(first.out.decode() + "".join(f"{it}\n" for it in lines), "", first.status)
         assert module("compare", *options.split(), "left", "right") == wanted, f"compare {left!r} {right!r} {options}"
@@ -558,7 +552,7 @@ def test_comparisons(tested: str) -> None:
         ("bad.lz4", b"x\n", "bad.lz4: 31 Read (lz4 is not supported)\n", 4),
     ]:
         write(name, text)
-        assert module("compare", "left", name) == said("", line, status), f"compare with {name}"
+        prints(f"compare left {name}", "", line, status)
     short = "<dnorm.Differences: differ pair 1 2 length 3 none, only_left=5, only_right=0, both=0, different=0>"
     found = dnorm.differences(ROADS, b"p sp 3 0\n")
     assert (repr(found), len(dnorm.differences(ROADS, b"p sp 3 0\n", 2).pairs)) == (short, 2), "differences"
@@ -568,14 +562,12 @@ def test_comparisons(tested: str) -> None:
 
 def test_compared_quietly() -> None:
     """Tests `compare` as JSON, without output, and with standard input."""
-    write("left", LEFT)
-    write("right", CHANGED)
+    make({"left": LEFT, "right": CHANGED})
     record = json.loads(module("compare", "--json", "--limit", "1", "left", "right").out)
     wanted_ = (False, "differ nodes 3 4", 3, [["nodes", 3, 4]], [1, 2])
     told_ = (record["same"], record["first"], record["different"], record["values"], record["pairs"][0]["key"])
     assert told_ == wanted_, "compare --json"
     for words, status in [("left right", 1), ("left left", 0)]:
-        assert module("compare", "-q", *words.split()) == said("", "", status), f"compare -q {words}"
+        prints(["compare", "-q", *words.split()], "", "", status)
     for words in ["- left", "left -"]:
-        piped = module("compare", "-q", *words.split(), given=bytes_of("left"))
-        assert piped == said("", "", 0), f"compare -q {words}"
+        prints(["compare", "-q", *words.split()], "", "", given=bytes_of("left"))

@@ -30,6 +30,7 @@ worker.onmessage = (event) => {{ document.body.dataset.leak = event.data; }};"""
 NAMELESS = """return [...document.querySelectorAll('button, a, input, svg, progress, textarea')].filter((it) =>
   !(it.textContent.trim() || it.getAttribute('aria-label') || it.getAttribute('aria-labelledby')))
   .map((it) => it.outerHTML)"""
+CLICK = "[...document.querySelectorAll('button, a')].find((it) => it.textContent.startsWith(arguments[0])).click()"
 # Asks for the canonical texts of two files.
 CLICKS = """const [first, second] = [0, 1].map((it) => element(`canon${it}`).previousSibling.firstChild);
 first.click();
@@ -44,29 +45,18 @@ checksum = async (text) => {
 };
 element('canon0').previousSibling.firstChild.click();"""
 FAR, MOST = 2**62, 2**63 - 1
+SP, MAX = ("a.gr", "p sp 2 3\na 1 2 7\na 2 1 4\na 1 2 3\n"), "p max 2 %d\nn 1 s\nn 2 t\n"
 MIN = "p min 2 3\na 1 2 1 {} -{}\na 1 2 0 5 3\na 1 2 5 {} {}\n"
 # Files by their names, and what the page says of them.
 SHOWN: list[tuple[list[tuple[str, str]], list[str]]] = [
-    (
-        [("a.gr", "p sp 2 3\na 1 2 7\na 2 1 4\na 1 2 3\n")],
-        ["a.gr is accepted", "Kind: sp", "Arc lines: 3", "Canonical arcs: 2"],
-    ),
-    (
-        [("a.gr", "p sp 2 3\na 1 2 7\na 2 1 4\na 1 2 3\n"), ("b.gr", "p sp 2 2\na 2 1 4\na 1 2 3\n")],
-        ["Both files pose the same problem"],
-    ),
+    ([SP], ["a.gr is accepted", "Kind: sp", "Arc lines: 3", "Canonical arcs: 2"]),
+    ([SP, ("b.gr", "p sp 2 2\na 2 1 4\na 1 2 3\n")], ["Both files pose the same problem"]),
     (
         [("a.gr", "p sp 2 2\na 1 2 7\na 2 1 4\n"), ("b.gr", "p sp 2 2\na 2 1 5\na 1 2 7\n")],
         ["The files differ", "The arcs from 2 to 1 differ first: in their least length.", "Left: 4", "Right: 5"],
     ),
-    (
-        [("a.max", "p max 2 1\nn 1 s\nn 2 t\na 1 2 7\n"), ("b.max", "p max 2 0\nn 1 s\nn 2 t\n")],
-        ["in their total capacity", "Left: 7", "Right: 0"],
-    ),
-    (
-        [("a.max", "p max 2 0\nn 1 s\nn 2 t\n"), ("b.gr", "p sp 2 0\n")],
-        ["They are of two kinds.", "Left: max", "Right: sp"],
-    ),
+    ([("a.max", MAX % 1 + "a 1 2 7\n"), ("b.max", MAX % 0)], ["in their total capacity", "Left: 7", "Right: 0"]),
+    ([("a.max", MAX % 0), ("b.gr", "p sp 2 0\n")], ["They are of two kinds.", "Left: max", "Right: sp"]),
     ([("a.min", "p min 2 1\nn 1 0\na 1 2 0 1 1\n"), ("b.min", "p min 2 1\nn 1 5\na 1 2 0 1 1\n")], ["flow of node 1"]),
     ([("a.ss", "p aux sp ss 1\ns 1\n"), ("b.ss", "p aux sp ss 1\ns 2\n")], ["They differ in item 1."]),
     ([("a.co", "p aux sp co 1\nv 7 0 0\n"), ("b.co", "p aux sp co 1\nv 7 0 1\n")], ["the point of node 7"]),
@@ -116,10 +106,7 @@ class Page:
         return self.answer()
 
     def click(self, label: str) -> None:
-        words = (
-            "[...document.querySelectorAll('button, a')].find((it) => it.textContent.startsWith(arguments[0])).click()"
-        )
-        self.browser.js(words, label)
+        self.browser.js(CLICK, label)
 
 
 @pytest.fixture(scope="module", name="page", params=[Chromium, Firefox])

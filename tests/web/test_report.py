@@ -113,16 +113,10 @@ def test_pair(browser: Any) -> None:
 
 def test_folder(browser: Any) -> None:
     """A folder of odd names and of texts with long lines: escaped, counted, filtered and sorted, by keys as well."""
-    for at, name in enumerate(NAMES):
-        make({f"set/{name}": b"p sp %d 1\na 1 1 %d\n" % (9 - at % 4, at)})
-    make(
-        {
-            "set/line.min": b"p min 2 1\n" + b"<b>" * 44_000 + b"\n",
-            "set/flow.min": COSTS,
-            "set/lone.ss": b"p aux sp ss 0\n",
-            "set/<b>bad.gr": b"p sp 1 1\n",
-        }
-    )
+    texts = {it: b"p sp %d 1\na 1 1 %d\n" % (9 - at % 4, at) for at, it in enumerate(NAMES)}
+    texts |= {"line.min": b"p min 2 1\n" + b"<b>" * 44_000 + b"\n", "flow.min": COSTS}
+    texts |= {"lone.ss": b"p aux sp ss 0\n", "<b>bad.gr": b"p sp 1 1\n"}
+    make({f"set/{name}": text for name, text in texts.items()})
     page = looked("set", status=2)
     without = Shown(page)
     assert without.tags.count("script") == 3 and "img" not in without.tags
@@ -171,23 +165,15 @@ def test_since() -> None:
     assert run([f"{ROOT}/dnorm-files", "manifest", "--output", "old", "set"]).status == 0
     os.rename("set/a.gr", "set/moved.gr")
     os.remove("set/b.gr")
-    make({"set/c.gr": b"p sp 77 0\n", "set/new.gr": b"p sp 78 0\n"})
-    make({"set/e.gr": b"p sp 4 1\n"})
+    make({"set/c.gr": b"p sp 77 0\n", "set/new.gr": b"p sp 78 0\n", "set/e.gr": b"p sp 4 1\n"})
     text = Shown(looked("set", "--since", "old", status=2)).text
     assert "not accepted now: 1set/e.gr" in text and "gone: 1set/b.gr" in text, text
     make({"set/e.gr": b"p sp 4 0\n"})
     page = looked("set", "--since", "old")
     text = Shown(page).text
     assert "not accepted now" not in text
-    for it in [
-        "the same 2",
-        "changed: 1",
-        "set/c.gr",
-        "renamed: 1",
-        "set/a.gr is now set/moved.gr",
-        "new: 1",
-        "gone: 1",
-    ]:
+    told = ["the same 2", "changed: 1", "set/c.gr", "renamed: 1", "set/a.gr is now set/moved.gr", "new: 1", "gone: 1"]
+    for it in told:
         assert it in text, it
     assert '<p class="good verdict">' in page
     os.makedirs("none")
@@ -239,6 +225,5 @@ def test_one_picture() -> None:
     write("a.min", COSTS)
     write("b.min", "p min 2 0\n")
     assert text_of(f"{ROOT}/web/look.js") in looked("a.min", "b.min", status=1)
-    assert run([f"{ROOT}/dnorm-files", "look", "a.min", "none"]) == said(
-        "", "none: 31 Read (No such file or directory)\n", 4
-    )
+    missing = said("", "none: 31 Read (No such file or directory)\n", 4)
+    assert run([f"{ROOT}/dnorm-files", "look", "a.min", "none"]) == missing
