@@ -19,7 +19,7 @@ sys.path.append(os.path.join(os.path.dirname(os.path.realpath(__file__)), "../te
 from shared import DEFINITIONS, ROOT, listed, text_of  # noqa: E402
 
 # The pages of the repository, and those that a release has.
-PAGES = sorted(it for _, it, _ in listed() if it.endswith(".md"))
+PAGES = sorted({it for _, it, _ in listed() if it.endswith(".md")})
 LINKING = [*(it for it in PAGES if it != DEFINITIONS), "released/README.md"]
 # The page whose blocks of code are all quoted from a source, and which explains the signs in them.
 QUOTING = "docs/PROVED.md"
