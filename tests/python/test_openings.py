@@ -142,7 +142,7 @@ def wide_text(chance: random.Random, kind: str, nodes: int, count: int) -> bytes
     keys = [tuple(chance.choices([1, 2, 3, nodes - 1, nodes], k=ends)) for _ in range(count)]
     for key in dict.fromkeys(keys) if kind == "co" else keys:
         chosen = ([low + 2] * 9 + [low, high, low + 1, chance.randint(low, high)] for low, high in LIMITS[kind])
-        text.items.append((*key, *map(chance.choice, chosen)))
+        text.items.append((*key, *[chance.choice(it) for it in chosen]))
     return "".join(f"{' '.join(it)}\n" for it in lines_of(chance, text)).encode()
 
 
@@ -151,13 +151,13 @@ def test_with_numpy(monkeypatch: pytest.MonkeyPatch) -> None:
     """That `differences` and `list` say the same with numpy and without it."""
     chance, accepted = random.Random(64), 0
     for kind, nodes, count in itertools.product(LIMITS, [4, 10**6, 2**62], [0, 1, 5, 40]):
-        texts = [wide_text(chance, kind, nodes, count) for _ in range(2)]
-        write("left", texts[0])
-        calls: list[Callable[[], object]] = [lambda: vars(dnorm.differences(*texts)), lambda: record_of("left", 2)]
-        calls.append(lambda: vars(dnorm.differences(*texts, 2)))
+        left, right = (wide_text(chance, kind, nodes, count) for _ in range(2))
+        write("left", left)
+        calls: list[Callable[[], object]] = [lambda: vars(dnorm.differences(left, right)), lambda: record_of("left", 2)]
+        calls.append(lambda: vars(dnorm.differences(left, right, 2)))
         found = [*map(told, calls)]
         with monkeypatch.context() as patched:
             patched.setitem(vars(sys)["modules"], "numpy", None)
-            assert [*map(told, calls)] == found, texts
+            assert [*map(told, calls)] == found, (left, right)
         accepted += "kind" in found[0]
     assert accepted > 40, "few are refused"
