@@ -202,9 +202,10 @@ def at_length(tested: str) -> str:
 
 @pytest.mark.parametrize("name", ["answers", "host", "hostile", "memory", "samples", "search"])
 def test_as_program(at_length: str, name: str) -> None:
-    """The tests of the program, but for the one line of its version."""
-    version = "--deselect=tests/program/test_host.py::test_command[--version]"
-    passes(at_length, f"{ROOT}/tests/program/test_{name}.py", version)
+    """The tests of the program, but for the one line of its version, and for those that `rt ci` builds of libraries."""
+    others = ["host.py::test_command[--version]", "memory.py::test_libraries"]
+    words = [f"--deselect=tests/program/test_{it}" for it in others]
+    passes(at_length, f"{ROOT}/tests/program/test_{name}.py", *words)
 
 
 def test_as_library(at_length: str, folder: str) -> None:
