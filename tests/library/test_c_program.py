@@ -27,8 +27,8 @@ pytestmark = pytest.mark.whole
 PLACES = [f"{ROOT}/c/out", f"{ROOT}/released/c"]
 HEADERS = ["dnorm.h", "dnorm_codes.h", "dnorm_tools.h", "dnorm.hpp"]
 WINE = "/usr/lib/wine/wine64"
-# It prints nothing of its own, and shows no window.
-IN_WINE = {"WINEDEBUG": "-all", "DISPLAY": ""}
+# It prints nothing of its own, shows no window, and takes names for UTF-8.
+IN_WINE = {"WINEDEBUG": "-all", "DISPLAY": "", "LC_ALL": "C.UTF-8"}
 # A text that is refused, and whose first two lines are not.
 ENDS = b"p sp 3 1\na 1 2 3\n\x1ajunk\n"
 # What compiles the program; what runs it, if that is not this machine; and of how many known runs one is made.
@@ -80,8 +80,8 @@ class Program:
         self.path = f"{folder}/dnorm.exe"
         assert run([*compiler, "-w", "-o", self.path, f"{folder}/dnorm.c", c_file(folder)], limit=None) == said()
         self.env = {**os.environ, **IN_WINE, "WINEPREFIX": f"{folder}/wine"}
-        # The first run of wine tells what it makes.
-        self.run(["--version"])
+        # The first run of wine tells what it makes, and starts services that keep its streams open for seconds.
+        run(["sh", "-c", 'exec "$@" > /dev/null 2>&1', "sh", *self.runner, self.path, "help"], limit=300, env=self.env)
 
     def run(self, words: Words, given: bytes = b"") -> Answer:
         return run([*self.runner, self.path, *words], given, limit=300, env=self.env)

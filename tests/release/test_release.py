@@ -135,12 +135,8 @@ def test_c_file(made: Made, two: Place, folder: str) -> None:
         tar.extractall(folder)
     headers = [f"include/{it}" for it in ["dnorm.h", "dnorm.hpp", "dnorm_codes.h", "dnorm_tools.h"]]
     by_make = ["make", "-s", "-C", name, "CFLAGS=-O0", f"PREFIX={folder}/made", "install"]
-    for words in [
-        by_make,
-        ["cmake", "-S", name, "-B", "build"],
-        ["cmake", "--build", "build"],
-        ["cmake", "--install", "build", "--prefix", "by-cmake"],
-    ]:
+    steps = [f"cmake -S {name} -B build", "cmake --build build", "cmake --install build --prefix by-cmake"]
+    for words in [by_make, *map(str.split, steps)]:
         assert run(words).status == 0, words
     installed = ["bin/dnorm", *headers, "lib/libdnorm.a"]
     for it, wanted in {"made": [*installed, "lib/pkgconfig/dnorm.pc"], "by-cmake": installed}.items():
