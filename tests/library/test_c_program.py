@@ -16,7 +16,7 @@ import sys
 import pytest
 from known import ROADS, ROADS_CANON, WRONG_WORDS, rows
 from needs import need, pass_over, passes
-from shared import ROOT, Answer, Words, pipe, run, said, text_of, write
+from shared import ROOT, Answer, Words, make, pipe, run, said, text_of, write
 from test_c_file import HERE, SANITIZERS
 from texts import lines_of, made, spelled, spoilt
 
@@ -25,10 +25,8 @@ from dnorm.library import ABI
 pytestmark = pytest.mark.whole
 # Where the file is, made here or released, and what lies beside it.
 PLACES = [f"{ROOT}/c/out", f"{ROOT}/released/c"]
-HEADERS = ["dnorm.h", "dnorm_codes.h", "dnorm_tools.h", "dnorm.hpp"]
-WINE = "/usr/lib/wine/wine64"
-# It prints nothing of its own, shows no window, and takes names for UTF-8.
-IN_WINE = {"WINEDEBUG": "-all", "DISPLAY": "", "LC_ALL": "C.UTF-8"}
+# wine, without random addresses: in one of some 5,000 runs, one that it needs would be taken.
+WINE = ["setarch", "-R", "/usr/lib/wine/wine64"]
 # A text that is refused, and whose first two lines are not.
 ENDS = b"p sp 3 1\na 1 2 3\n\x1ajunk\n"
 # What compiles the program; what runs it, if that is not this machine; and of how many known runs one is made.
@@ -40,7 +38,7 @@ BUILDS: dict[str, tuple[list[str], list[str], int]] = {
     "tcc": (["tcc"], [], 1),
     "aarch64": (["aarch64-linux-gnu-gcc", "-O0", "-static"], ["qemu-aarch64"], 10),
     "riscv64": (["riscv64-linux-gnu-gcc", "-O0", "-static"], ["qemu-riscv64"], 10),
-    "Windows": (["x86_64-w64-mingw32-gcc", "-O0", "-municode"], [WINE], 40),
+    "Windows": (["x86_64-w64-mingw32-gcc", "-O0", "-municode"], WINE, 40),
 }
 # Random texts, and their kinds.
 RANDOM, KINDS = 200, ["min", "max", "sp", "ss", "p2p", "co"]
@@ -58,7 +56,7 @@ def c_file(folder: str) -> str:
         pass_over("the C file (tools/c-file makes it)")
     version = re.search(r'VERSION: &str = "(.+)"', text_of(f"{ROOT}/crates/dn_command/src/help.rt"))
     shutil.copy(f"{found[0]}/libdnorm.c", folder)
-    for it in [*HEADERS, "dnorm.c"]:
+    for it in ["dnorm.h", "dnorm_codes.h", "dnorm_tools.h", "dnorm.hpp", "dnorm.c"]:
         write(f"{folder}/{it}", text_of(f"{ROOT}/c/{it}").replace("@VERSION@", version[1] if version else ""))
     return f"{folder}/libdnorm.c"
 
@@ -68,20 +66,30 @@ def is_of_c(program: str) -> bool:
     return run([program, "--version"]).out.count(b"\n") == 2
 
 
+def in_wine(folder: str) -> dict[str, str]:
+    """Starts wine, and returns the environment of runs, which print nothing of wine's and take names for UTF-8. The
+    first run starts services, which keep its streams open until wine's server ends: here 20 s after the last run."""
+    if run([*WINE[:2], "true"]) != said():
+        pass_over("the right to fix addresses")
+    env = {**os.environ, "WINEDEBUG": "-all", "DISPLAY": "", "LC_ALL": "C.UTF-8", "WINEPREFIX": f"{folder}/wine"}
+    os.mkdir(env["WINEPREFIX"])
+    for words in [[f"{os.path.dirname(WINE[-1])}/wineserver", "-p20"], [*WINE, "cmd", "/c", "exit"]]:
+        run(["sh", "-c", 'exec "$@" > /dev/null 2>&1', "sh", *words], limit=300, env=env)
+    return env
+
+
 class Program:
     """A program of the C file in a folder: its path, the words that run it, and of how many known runs one is made."""
 
     def __init__(self, folder: str, build: str, is_long: bool) -> None:
         compiler, self.runner, self.sample = BUILDS[build]
-        need(compiler[0], *self.runner)
+        need(compiler[0], *self.runner[-1:])
         if is_long:
             self.sample = 1
             compiler = [it.replace("-O0", "-O2") if self.runner else it for it in compiler]
         self.path = f"{folder}/dnorm.exe"
         assert run([*compiler, "-w", "-o", self.path, f"{folder}/dnorm.c", c_file(folder)], limit=None) == said()
-        self.env = {**os.environ, **IN_WINE, "WINEPREFIX": f"{folder}/wine"}
-        # The first run of wine tells what it makes, and starts services that keep its streams open for seconds.
-        run(["sh", "-c", 'exec "$@" > /dev/null 2>&1', "sh", *self.runner, self.path, "help"], limit=300, env=self.env)
+        self.env = in_wine(folder) if self.runner == WINE else {**os.environ}
 
     def run(self, words: Words, given: bytes = b"") -> Answer:
         return run([*self.runner, self.path, *words], given, limit=300, env=self.env)
@@ -137,14 +145,10 @@ def test_program(tested: str, folder: str, build: str) -> None:
 
 
 def runs(program: Program) -> None:
-    wrong = []
     for row in [*rows()][:: program.sample]:
-        for name, text in row.named.items():
-            write(name, text)
+        make(row.named)
         found = program.run(row.words.split(), row.named.get("-", b""))
-        if found != said(row.out, row.err, row.status):
-            wrong.append((row.name(), found))
-    assert not wrong
+        assert found == said(row.out, row.err, row.status), row.name()
 
 
 def words(program: Program, tested: str) -> None:
@@ -168,8 +172,7 @@ def files(program: Program) -> None:
     assert program.run([], ENDS) == said(b"", "-:3: 1 BadLine\n", 2)
     assert program.run(["show", "ümläut.gr"]) == said(b"", "ümläut.gr: 31 Read\n", 4)
     long = "/".join(["x" * 100] * 4)
-    os.makedirs(long)
-    write(f"{long}/g.gr", ROADS)
+    make({f"{long}/g.gr": ROADS})
     for name in [f"{long}/g.gr", os.path.abspath(f"{long}/g.gr")]:
         assert program.run(["canon", name]) == said(ROADS_CANON)
 
@@ -259,13 +262,10 @@ int main(int count, char **words) {
 @pytest.mark.parametrize("compiler, name, out", [("gcc", "reads.c", "1 1 1 "), ("g++", "reads.cc", "1 1 1 1")])
 def test_headers_on_windows(folder: str, compiler: str, name: str, out: str) -> None:
     """The headers read a file as bytes: a byte 26 does not end it."""
-    need(WINE, f"x86_64-w64-mingw32-{compiler}", "x86_64-w64-mingw32-gcc")
-    write("ends.gr", ENDS)
-    write(name, READS)
+    need(WINE[-1], f"x86_64-w64-mingw32-{compiler}", "x86_64-w64-mingw32-gcc")
+    make({"ends.gr": ENDS, name: READS})
     standard = ["-std=c++17", "-static"] if compiler == "g++" else ["-std=c99"]
     linked = ["-Wall", "-Wextra", "-I.", "-o", "reads.exe", name, "libdnorm.o"]
     for one, *words in [("gcc", "-w", "-c", c_file(folder)), (compiler, *standard, *linked)]:
         assert run([f"x86_64-w64-mingw32-{one}", *words], limit=None) == said()
-    env = {**os.environ, **IN_WINE, "WINEPREFIX": f"{folder}/wine"}
-    run([WINE, "reads.exe", "ends.gr"], ENDS, limit=300, env=env)
-    assert run([WINE, "reads.exe", "ends.gr"], ENDS, limit=300, env=env) == said(out)
+    assert run([*WINE, "reads.exe", "ends.gr"], ENDS, limit=300, env=in_wine(folder)) == said(out)
