@@ -25,8 +25,9 @@ from dnorm.library import ABI
 pytestmark = pytest.mark.whole
 # Where the file is, made here or released, and what lies beside it.
 PLACES = [f"{ROOT}/c/out", f"{ROOT}/released/c"]
-# wine, without random addresses: in one of some 5,000 runs, one that it needs would be taken.
-WINE = ["setarch", "-R", "/usr/lib/wine/wine64"]
+# What runs a program for Windows: wine, without random addresses if the system allows that. With them, one of some
+# 5,000 runs ends, since an address that wine needs is taken.
+WINE = ["sh", "-c", 'setarch -R true 2> /dev/null && set -- setarch -R "$@"; exec "$@"', "sh", "/usr/lib/wine/wine64"]
 # A text that is refused, and whose first two lines are not.
 ENDS = b"p sp 3 1\na 1 2 3\n\x1ajunk\n"
 # What compiles the program; what runs it, if that is not this machine; and of how many known runs one is made.
@@ -67,11 +68,10 @@ def is_of_c(program: str) -> bool:
 
 
 def in_wine(folder: str) -> dict[str, str]:
-    """Starts wine, and returns the environment of runs, which print nothing of wine's and take names for UTF-8. The
-    first run starts services, which keep its streams open until wine's server ends: here 20 s after the last run."""
-    if run([*WINE[:2], "true"]) != said():
-        pass_over("the right to fix addresses")
+    """Starts wine, and returns the environment of runs: none prints what is wine's or makes menus, and names are UTF-8.
+    The first run starts services, which keep its streams open until wine's server ends: 20 s after the last run."""
     env = {**os.environ, "WINEDEBUG": "-all", "DISPLAY": "", "LC_ALL": "C.UTF-8", "WINEPREFIX": f"{folder}/wine"}
+    env["WINEDLLOVERRIDES"] = "winemenubuilder.exe=d"
     os.mkdir(env["WINEPREFIX"])
     for words in [[f"{os.path.dirname(WINE[-1])}/wineserver", "-p20"], [*WINE, "cmd", "/c", "exit"]]:
         run(["sh", "-c", 'exec "$@" > /dev/null 2>&1', "sh", *words], limit=300, env=env)
@@ -89,7 +89,7 @@ class Program:
             compiler = [it.replace("-O0", "-O2") if self.runner else it for it in compiler]
         self.path = f"{folder}/dnorm.exe"
         assert run([*compiler, "-w", "-o", self.path, f"{folder}/dnorm.c", c_file(folder)], limit=None) == said()
-        self.env = in_wine(folder) if self.runner == WINE else {**os.environ}
+        self.env = in_wine(folder) if self.runner == WINE else dict(os.environ)
 
     def run(self, words: Words, given: bytes = b"") -> Answer:
         return run([*self.runner, self.path, *words], given, limit=300, env=self.env)
