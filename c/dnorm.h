@@ -271,8 +271,8 @@ dnorm_status dnorm_finish(dnorm *reader);
 dnorm_status dnorm_lines_begin(dnorm *reader);
 
 /* Feeds the next bytes of the text, and writes the arc lines among the lines that end in them to `out`, in the order of
-   the text. It takes all bytes, unless it has filled `out`: then feed it the others, with room. Feed an LF behind the
-   last byte of the text, so that its last line ends.
+   the text. It takes all bytes, unless it has filled `out`: then feed it the others, with room. What `out` has behind
+   the lines that are counted does not change. Feed an LF behind the last byte of the text, so that its last line ends.
    Codes: DNORM_FINE; 1 to 5, 8 to 12 or 21 for the first line that has this fault by itself: no more bytes are taken
    after it. DNORM_WRONG_CALL if there is no reader of arc lines. */
 dnorm_lines_given dnorm_lines(dnorm *reader, const uint8_t *bytes, size_t length, dnorm_row *out, size_t room);
@@ -303,7 +303,7 @@ dnorm_count dnorm_items(const dnorm *instance, dnorm_place *place, dnorm_item *o
 dnorm_status dnorm_canon(const dnorm *instance, uint8_t form, dnorm *text);
 
 /* Copies the bytes of a text to `out`, from the one at `from`, counted from 0, as far as there is room. It copies fewer
-   than there is room for only at the end of the text.
+   than there is room for only at the end of the text. What `out` has behind the bytes that are counted does not change.
    Codes: DNORM_FINE; DNORM_WRONG_CALL if there is no text. */
 dnorm_count dnorm_text(dnorm *text, size_t from, uint8_t *out, size_t room);
 

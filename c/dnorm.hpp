@@ -10,8 +10,8 @@
 // Instance and Reader free what they own, can be moved and not copied, and keep the rules of dnorm.h. The const members
 // of one Instance may be called by several threads at the same time. Any call of an Instance that was moved from, a
 // call for the arcs of a companion, for lines that were not kept, and a piece for a Reader that has ended throw Refused
-// with the code DNORM_WRONG_CALL. A call with a `dnorm_status &` throws no Refused, and sets that to the code of the call, which is
-// DNORM_MEMORY where the library has no memory.
+// with the code DNORM_WRONG_CALL. A form other than 1 and 2 is a std::invalid_argument. A call with a `dnorm_status &`
+// throws no Refused, and sets that to the code of the call, which is DNORM_MEMORY where the library has no memory.
 #ifndef DNORM_HPP
 #define DNORM_HPP
 #include "dnorm.h"
@@ -20,6 +20,7 @@
 #include <cstddef>
 #include <cstdio>
 #include <iostream>
+#include <iterator>
 #include <new>
 #include <optional>
 #include <stdexcept>
@@ -32,20 +33,23 @@
 
 namespace dnorm_cpp {
 
-// Why there is no instance or no text: the status of the call. what() is `line 2: 13 NodeOutOfRange: ..`.
+// Why there is no instance or no text: the status of the call, and the name of the file, if it is that of a file.
+// what() is `roads.gr: line 2: 13 NodeOutOfRange: ..`, or begins with `line 2`.
 class Refused : public std::runtime_error {
 public:
     const dnorm_status status;
-    explicit Refused(dnorm_status why) : std::runtime_error(said(why)), status(why) {}
+    const std::string file;
+    explicit Refused(dnorm_status why, const std::string &of_file = {})
+        : std::runtime_error(said(why, of_file)), status(why), file(of_file) {}
 
     // Returns the name of the refusal.
     const char *name() const noexcept { return dnorm_code_name(status.code); }
 
 private:
-    static std::string said(dnorm_status why) {
+    static std::string said(dnorm_status why, const std::string &of_file) {
         char line[256];
         dnorm_status_line(why, line, sizeof line);
-        return line;
+        return of_file.empty() ? line : of_file + ": " + line;
     }
 };
 
@@ -111,9 +115,9 @@ private:
     bool is_kept;
 };
 
-inline void fine(dnorm_status status) {
+inline void fine(dnorm_status status, const char *file = "") {
     if (status.code == DNORM_MEMORY) throw std::bad_alloc();
-    if (status.code != DNORM_FINE) throw Refused(status);
+    if (status.code != DNORM_FINE) throw Refused(status, file);
 }
 
 inline void fine(std::uint8_t code) { fine(dnorm_status{code, DNORM_NO_PLACE, 0}); }
@@ -127,7 +131,10 @@ inline std::size_t counted(dnorm_count found) {
     return found.count;
 }
 
-inline std::uint8_t form_of(int form) noexcept { return form == 2 ? 2 : 1; }
+inline std::uint8_t form_of(int form) {
+    if (form != 1 && form != 2) throw std::invalid_argument("a form is 1 or 2");
+    return static_cast<std::uint8_t>(form);
+}
 
 // The functions that copy columns of these numbers.
 inline dnorm_count copy(const dnorm_handle *graph, int form, dnorm_arc_columns out, std::size_t room) {
@@ -161,11 +168,12 @@ template <typename Index, typename Number> struct StarOf : ColumnsOf<Number> {
     // into_first[v - 1] to into_first[v], without the last one.
     std::vector<Index> into_first, into;
 
-    // Finds the arcs into each node.
+    // Finds the arcs into each node. A star that was moved from has none.
     void reverse() {
         const std::vector<Number> &all = this->heads;
         into_first.assign(first.size(), 0);
         into.resize(all.size());
+        if (first.empty()) return;
         for (Number head : all) into_first[static_cast<std::size_t>(head)]++;
         for (std::size_t v = 1; v < into_first.size(); v++) into_first[v] += into_first[v - 1];
         // Each list is filled from its end, so that its beginning is known at last.
@@ -177,6 +185,68 @@ template <typename Index, typename Number> struct StarOf : ColumnsOf<Number> {
 };
 using Star = StarOf<std::size_t, std::int64_t>;
 using Star32 = StarOf<std::int32_t, std::int32_t>;
+
+// Rows that somebody else owns, and that may be copied to a std::vector.
+template <typename Row> class View {
+public:
+    View(const Row *at, std::size_t count) noexcept : rows(at), length(count) {}
+    View(const std::vector<Row> &all) noexcept : View(all.data(), all.size()) {}
+    const Row *begin() const noexcept { return rows; }
+    const Row *end() const noexcept { return rows + length; }
+    const Row *data() const noexcept { return rows; }
+    std::size_t size() const noexcept { return length; }
+    bool empty() const noexcept { return length == 0; }
+    const Row &operator[](std::size_t at) const noexcept { return rows[at]; }
+    operator std::vector<Row>() const { return {begin(), end()}; }
+
+private:
+    const Row *rows;
+    std::size_t length;
+};
+
+// The canonical arcs of an instance in form 1, one after another: for (const dnorm_arc &arc : graph). Some are copied at
+// a time. The instance must outlive it.
+class ArcIterator {
+public:
+    using iterator_category = std::input_iterator_tag;
+    using value_type = dnorm_arc;
+    using difference_type = std::ptrdiff_t;
+    using pointer = const dnorm_arc *;
+    using reference = const dnorm_arc &;
+
+    // The end of any instance.
+    ArcIterator() = default;
+    explicit ArcIterator(const dnorm_handle *graph) : of(graph) { fill(); }
+    reference operator*() const { return some[at]; }
+    pointer operator->() const { return &some[at]; }
+    ArcIterator &operator++() {
+        if (++at == count) fill();
+        return *this;
+    }
+    ArcIterator operator++(int) {
+        ArcIterator before = *this;
+        ++*this;
+        return before;
+    }
+    // Two iterators of one instance are equal if both have ended, or as many arcs are behind both.
+    bool operator==(const ArcIterator &other) const noexcept { return left() == other.left(); }
+    bool operator!=(const ArcIterator &other) const noexcept { return !(*this == other); }
+
+private:
+    const dnorm_handle *of = nullptr;
+    dnorm_place place = DNORM_FIRST;
+    std::vector<dnorm_arc> some;
+    std::size_t at = 0, count = 0, taken = 0;
+
+    // How many arcs were taken, or none at the end.
+    std::size_t left() const noexcept { return count == 0 ? 0 : taken + at + 1; }
+    void fill() {
+        taken += count;
+        some.resize(DNORM_SOME);
+        count = detail::counted(dnorm_next(of, 1, &place, some.data(), some.size()));
+        at = 0;
+    }
+};
 
 // A parsed instance.
 class Instance {
@@ -267,10 +337,14 @@ public:
     // Returns them by their tails, with numbers of 32 bits. Throws std::range_error if one does not fit.
     Star32 star_32(int form = 1) const { return star_of<Star32>(form); }
 
-    // Returns the arc lines of the text, in its order.
-    std::vector<dnorm_row> lines() const {
+    // The canonical arcs in form 1, one after another.
+    ArcIterator begin() const { return ArcIterator(handle.get()); }
+    ArcIterator end() const { return {}; }
+
+    // Returns the arc lines of the text, in its order. The instance owns them.
+    View<dnorm_row> lines() const {
         detail::answered(kept.get() != nullptr);
-        return {kept.get()->rows, kept.get()->rows + kept.get()->count};
+        return {kept.get()->rows, kept.get()->count};
     }
 
     // Puts a flow on the canonical arcs in form 1 or 2 back on the arc lines, as dnorm_spread does: returns the units of
@@ -356,7 +430,7 @@ private:
     }
     static void done(dnorm_status status, const char *name) {
         if (status.code == DNORM_READ) throw std::system_error(errno, std::generic_category(), name);
-        detail::fine(status);
+        detail::fine(status, name);
     }
 
     // Copies all arcs to the columns that the kind has.
@@ -498,11 +572,11 @@ inline void write(std::ostream &out, std::uint8_t kind, std::int64_t nodes, cons
 }
 
 // Writes the units of each arc line, `f TAIL HEAD UNITS`, in the order of the text. Throws std::ios_base::failure if the
-// stream does not take all of it.
-inline void write_flow(std::ostream &out, const std::vector<dnorm_row> &lines,
-                       const std::vector<std::int64_t> &units) {
+// stream does not take all of it, and std::invalid_argument before the first line if there are not as many units.
+inline void write_flow(std::ostream &out, View<dnorm_row> lines, const std::vector<std::int64_t> &units) {
+    if (units.size() != lines.size()) throw std::invalid_argument("there are not as many units as arc lines");
     for (std::size_t i = 0; i < lines.size(); i++)
-        out << "f " << lines[i].tail << ' ' << lines[i].head << ' ' << units.at(i) << '\n';
+        out << "f " << lines[i].tail << ' ' << lines[i].head << ' ' << units[i] << '\n';
     if (!out.flush()) throw std::ios_base::failure("the flow cannot be written");
 }
 

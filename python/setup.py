@@ -1,11 +1,27 @@
-"""Builds the library, which a source distribution has as one C file. The wheels of a release have it already."""
+"""Builds the library, which a source distribution has as one C file, and a clone among its released files. The wheels
+of a release bring it: where $DNORM_WITHOUT_LIBRARY is set, nothing is built."""
 
 import os
+import shutil
+import sys
 
 from setuptools import Extension, setup
 
-SOURCE = "c/libdnorm.c"
-# It is no module of Python, and is loaded by its path.
-LIBRARY = Extension("dnorm.libdnorm", [SOURCE], depends=["c/dnorm.h"], define_macros=[("DNORM_SHARED", None)])
+# Where the file is, with its header: in a source distribution and in a clone.
+PLACES = ["c", "../released/c"]
+SOURCE = "build/c/libdnorm.c"
 
-setup(ext_modules=[LIBRARY] if os.path.exists(SOURCE) else [])
+
+def library() -> Extension:
+    """Returns the library, which is no module of Python, and is loaded by its path. Sources of a package are below
+    it."""
+    found = [it for it in PLACES if os.path.exists(f"{it}/libdnorm.c")]
+    if not found:
+        sys.exit(f"dnorm: there is no libdnorm.c in {' or '.join(PLACES)}, of which the library is compiled")
+    os.makedirs("build/c", exist_ok=True)
+    for it in ["libdnorm.c", "dnorm.h"]:
+        shutil.copy(f"{found[0]}/{it}", f"build/c/{it}")
+    return Extension("dnorm.libdnorm", [SOURCE], define_macros=[("DNORM_SHARED", None)])
+
+
+setup(ext_modules=[] if os.environ.get("DNORM_WITHOUT_LIBRARY") else [library()])

@@ -48,7 +48,7 @@ def by_rustc(library: str, folder: str, *programs: str) -> None:
         # tools/setup does not install Rust.
         pass_over("rustc")
     rustc = ["rustc", "--edition=2021", "-O", "-Dwarnings", "-L", folder, "--out-dir", folder]
-    native, crates = ["-L", f"native={library}/lib", "-l", "static=dnorm"], f"{ROOT}/share/rust"
+    native, crates = ["-L", f"native={library}/lib", "-l", "static=dnorm"], f"{ROOT}/rust"
     for words in [
         ["--crate-type=rlib", "--crate-name=dnorm_sys", *native, f"{crates}/dnorm-sys/src/lib.rs"],
         ["--crate-type=rlib", "--crate-name=dnorm", "--extern=dnorm_sys", f"{crates}/dnorm/src/lib.rs"],
@@ -105,7 +105,7 @@ def by_cmake(folder: str, prefix: str) -> None:
     """CMake builds a program with each library below a prefix."""
     need_cmake()
     os.makedirs(folder, exist_ok=True)
-    shutil.copy(f"{ROOT}/tests/library/library.cc", f"{folder}/library.cc")
+    shutil.copy(f"{ROOT}/c/tests/library.cc", f"{folder}/library.cc")
     write(f"{folder}/CMakeLists.txt", PROJECT.format(version=""))
     build = f"{folder}/build"
     for words in [["-S", folder, "-B", build, f"-DCMAKE_PREFIX_PATH={prefix}"], ["--build", build]]:

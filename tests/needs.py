@@ -2,6 +2,7 @@
 skipped, with the reason. With CI=true, which says that tools/setup has installed everything, a missing tool is a
 failure."""
 
+import json
 import os
 import shutil
 import sys
@@ -12,12 +13,12 @@ from typing import Any, NoReturn
 import hypothesis
 import pytest
 from hypothesis import strategies
-from shared import ROOT, Words, run
+from shared import ROOT, Words, run, text_of
 
 
 def seeds(count: int, quick: int) -> list[Any]:
-    """Returns so many seeds as parameters of a test, of which a quick run has the first ones."""
-    return [pytest.param(it, marks=[pytest.mark.whole] * (quick <= it)) for it in range(count)]
+    """Returns so many seeds as parameters of a test, of which a run without slow tests has the first ones."""
+    return [pytest.param(it, marks=[pytest.mark.slow] * (quick <= it)) for it in range(count)]
 
 
 def drawn(count: int, test: Callable[[Random], None]) -> None:
@@ -27,6 +28,13 @@ def drawn(count: int, test: Callable[[Random], None]) -> None:
     checks = [*hypothesis.HealthCheck]
     same = hypothesis.settings(deadline=None, database=None, derandomize=True, suppress_health_check=checks)
     hypothesis.settings(same, max_examples=count)(given)()
+
+
+def cases(every: int, first: int = 0) -> list[str]:
+    """Returns the options by which the conformance suite runs one of so many cases of each kind."""
+    found = json.loads(text_of(f"{ROOT}/suite/cases.json"))["rules"]
+    ids = [it["id"] for rule in found for it in rule["cases"]]
+    return [word for it in ids[first::every] for word in ("--case", it)] if every > 1 else []
 
 
 def leave_out(tool: str) -> NoReturn:
@@ -39,6 +47,12 @@ def leave_out(tool: str) -> NoReturn:
 def pass_over(needs: str) -> NoReturn:
     """Skips the test because this machine or the program under test does not allow it. `needs` is what it lacks."""
     pytest.skip(f"{needs} is not here", allow_module_level=True)
+
+
+def leave_out_unless_all() -> None:
+    """Passes over a test that takes minutes in ./check, but not in ./check --all."""
+    if os.environ.get("DNORM_BRIEF"):
+        pass_over("./check --all")
 
 
 def need(*tools: str) -> None:

@@ -5,7 +5,6 @@ import contextlib
 import glob
 import os
 import resource
-import shlex
 import signal
 import struct
 import subprocess
@@ -42,22 +41,17 @@ def said(out: str | bytes = b"", err: str | bytes = b"", status: int = 0) -> Ans
 
 
 def program_at(given: str | None) -> str:
-    """Returns the path of a program that is given, or else the one that tools/program names."""
-    if given:
-        path = os.path.abspath(given)
-    else:
-        named = subprocess.run([f"{ROOT}/tools/program"], stdout=subprocess.PIPE, text=True, check=False)
-        if named.returncode:
-            # It has said why.
-            sys.exit(named.returncode)
-        path = named.stdout.rstrip("\n")
+    """Returns the path of a program that is given, or else of $DNORM, or else of what bin/dnorm runs."""
+    built = f"{ROOT}/build/dnorm"
+    run_by_default = built if os.access(built, os.X_OK) else f"{ROOT}/released/{os.uname().machine}/dnorm"
+    path = os.path.abspath(given or os.environ.get("DNORM") or run_by_default)
     if not os.path.isfile(path) or not os.access(path, os.X_OK):
         sys.exit(f"{path} is not a program")
     return path
 
 
 def program() -> str:
-    """Returns the program of a command line: the first argument, or else the one that tools/program names. From then on
+    """Returns the program of a command line: the first argument, or else what bin/dnorm runs. From then on
     signals end this process as an exit does."""
     end_by_signals()
     return program_at(sys.argv[1] if sys.argv[1:] else None)
@@ -95,12 +89,12 @@ def own_folder(name: str, place: str | None = None) -> Iterator[str]:
 
 
 def rows_of_list() -> list[list[str]]:
-    """Returns the rows of share/installed.txt."""
-    return [it.split() for it in text_of(f"{ROOT}/share/installed.txt").splitlines() if not it.startswith("#")]
+    """Returns the rows of packaging/installed.txt."""
+    return [it.split() for it in text_of(f"{ROOT}/packaging/installed.txt").splitlines() if not it.startswith("#")]
 
 
 def listed() -> list[tuple[int, str, str]]:
-    """Returns the files that share/installed.txt lists: modes, paths in the repository and paths below a prefix."""
+    """Returns the files that packaging/installed.txt lists: modes, paths in the repository and paths below a prefix."""
     rows = [(mode, to, it) for mode, to, *names in rows_of_list() if mode != "link" for it in names]
     # What git does not have stands there by its name.
     found = {(mode, path, to) for mode, to, it in rows for path in glob.glob(it, root_dir=ROOT) or [it]}
@@ -108,22 +102,22 @@ def listed() -> list[tuple[int, str, str]]:
 
 
 def links_listed() -> dict[str, str]:
-    """Returns the links that share/installed.txt lists: targets by paths below a prefix."""
+    """Returns the links that packaging/installed.txt lists: targets by paths below a prefix."""
     return {to: target for mode, to, target in (it[:3] for it in rows_of_list()) if mode == "link"}
 
 
 def source_of(place: str, tested: str, made: str = "") -> str:
     """Returns the file that a listed path means in this repository, where the program is the tested one, and this
     folder has what tools/generate makes."""
-    if place == "dnorm":
+    if place == "bin/dnorm":
         return tested
     if made and os.path.exists(f"{made}/{place}"):
         return f"{made}/{place}"
-    # What tools/wasm makes.
-    if place.startswith("released/dnorm.") and os.path.exists(module := f"{ROOT}/web/out/{os.path.basename(place)}"):
+    # What make makes.
+    if place.startswith("released/dnorm.") and os.path.exists(module := f"{ROOT}/build/{os.path.basename(place)}"):
         return module
-    # What tools/c-library makes.
-    return f"{ROOT}/c/out/{place}" if place.startswith(("include/", "lib/")) else f"{ROOT}/{place}"
+    # What c/put makes.
+    return f"{ROOT}/build/prefix/{place}" if place.startswith(("include/", "lib/")) else f"{ROOT}/{place}"
 
 
 def run(words: Words, given: bytes = b"", limit: float | None = LIMIT, **more: Any) -> Answer:
@@ -148,25 +142,6 @@ def least_level(is_enough: Callable[[int], bool]) -> int:
         level = (low + high) // 2
         low, high = (low, level) if is_enough(level) else (level, high)
     return high
-
-
-# What the `./dnorm` and the tools/program of a clone do, in sh, with the program P. Both write into a log that they
-# were called.
-CLONES = {
-    "a program": ('echo own >> log; exec "$P" "$@"', "echo found >> log; echo $P"),
-    "a program that is built first": (
-        "echo own >> log",
-        "echo found >> log; ! grep -q own log || echo $P; grep -q own log",
-    ),
-    "no program": ("echo own >> log; exit 125", "echo found >> log; exit 125"),
-}
-
-
-def clone_of(what: str, tested: str) -> None:
-    """Makes one of these clones in a folder clone/."""
-    os.makedirs("clone/tools")
-    for path, does in zip(["clone/dnorm", "clone/tools/program"], CLONES[what]):
-        write(path, f"#!/bin/sh\nP={shlex.quote(tested)}\n{does}\n", 0o755)
 
 
 class Quick:

@@ -14,8 +14,9 @@ from collections.abc import Callable, Iterator
 
 import prover
 
-sys.path.append(os.path.join(os.path.dirname(os.path.realpath(__file__)), "../tests"))
-# The tests' folder must be on the path before this import.
+HERE = os.path.dirname(os.path.realpath(__file__))
+sys.path += [os.path.join(HERE, "../tests"), os.path.join(HERE, "../suite/tests")]
+# The tests' folders must be on the path before this import.
 from shared import DEFINITIONS, ROOT, listed, text_of  # noqa: E402
 
 # The pages of the repository, and those that a release has.
@@ -31,7 +32,9 @@ QUOTE = re.compile(r"^<!-- from (\S+) -->\n```[^\n]*\n(.*?)^```$", re.M | re.S)
 HEADING = re.compile(r"^#+ +(.*)$", re.M)
 # Code, which has no links, or a link.
 LINK = re.compile(r"`[^`\n]*`|\[(?P<text>(?:`[^`\n]*`|[^]`\n])*)\]\((?P<to>[^)\s]+)\)")
-PATH = re.compile(r"`((?:c|crates|docs|tools|tests|share|python|bench|examples|released)/[\w./*-]+)`")
+PATH = re.compile(
+    r"`((?:bin|c|crates|docs|tools|tests|suite|rust|python|web|packaging|bench|examples|released)/[\w./*-]+)`"
+)
 WORD = re.compile(r"[^\W\d]\w*")
 COMMENT = re.compile(r"^\s*(?:--|//).*$", re.M)
 IMPORTS = re.compile(r"^(?:pub )?use .*$", re.M)

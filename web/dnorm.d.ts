@@ -5,16 +5,22 @@ export type Kind = 'min' | 'max' | 'sp' | 'ss' | 'p2p' | 'co' | 'none';
 /** The canonical form: 1 has separate arcs for forced units and for free capacity, 2 has one arc for each cost of a
  *  pair. Forms matter only for `min`. */
 export type Form = 1 | 2;
+/** A stream of bytes, as a ReadableStream is. */
+export interface Streaming {
+  getReader(): { read(): Promise<{ done: boolean; value?: Uint8Array }>; cancel(): Promise<void> };
+}
 /** A text: its bytes, whatever yields pieces of them, a Blob, a File or a Response; where there are files, a path. */
 export type Source =
   | string
   | ArrayBuffer
   | ArrayBufferView
-  | Blob
-  | Response
-  | ReadableStream<Uint8Array>
+  | Streaming
+  | { stream(): Streaming }
+  | { readonly ok: boolean; readonly body: Streaming | null }
   | AsyncIterable<Uint8Array>
   | Iterable<Uint8Array>;
+/** A module: its bytes, which may be packed by gzip, or a WebAssembly.Module. */
+export type Module = ArrayBuffer | ArrayBufferView | object;
 
 /** Numbers of refusals, with their names and sentences. */
 export const REFUSALS: Readonly<Record<number, readonly [name: string, sentence: string]>>;
@@ -64,16 +70,23 @@ export class Refused extends Error {
 
 /** What a text means. Its memory is free after `free`, or some time after nothing refers to it. */
 export class Instance {
+  private constructor();
   facts(): Facts;
   /** The number of canonical arcs, or null if there are 2^64 or more, or no graph. */
   arcCount(form?: Form): bigint | null;
   /** [tail, head, length], [tail, head, capacity], or [tail, head, low, capacity, cost], in the order of the canonical
    *  text. Those of the first `pairs` pairs are passed over. */
   arcs(form?: Form, pairs?: bigint): Generator<bigint[]>;
+  /** The canonical arcs as columns, in the same order: of `sp` also `length`, of `max` `capacity`, and of `min` `low`,
+   *  `capacity` and `cost`. */
+  columns(form?: Form): { tail: BigInt64Array; head: BigInt64Array; [value: string]: BigInt64Array };
   /** [node, flow], [source, sink], [ID], [ID, ID] or [ID, x, y]. */
   items(): Generator<bigint[]>;
   /** The canonical text, in pieces of bytes. */
   canon(form?: Form): Generator<Uint8Array>;
+  /** The forms in which the text that was read is canonical. `isText` tells whether it is the canonical text of a form;
+   *  it is asked only of forms that have as many arcs as the text has lines. */
+  forms(isText: (form: Form) => boolean | Promise<boolean>): Promise<Form[]>;
   /** null if both pose the same problem. */
   compare(right: Instance): Difference | null;
   /** null if the companion names only nodes of this graph. Otherwise 35 and the first node that is not in it, or 36 if
@@ -84,6 +97,7 @@ export class Instance {
 
 /** A module with its memory, in which instances are. */
 export class Library {
+  private constructor();
   /** Reads a text to its end. After each piece `progress` is called with its length and the instance so far.
    *  Throws Refused, or what the source throws. */
   read(source: Source, options?: { progress?: (length: number, instance: Instance) => void }): Promise<Instance>;
@@ -101,7 +115,7 @@ export function verdict(difference: Difference | null): string;
 export function misfitLine(misfit: { number: 35 | 36; node: bigint | null }, file: string): string;
 /** Yields the lines that the program shows of an instance. */
 export function show(instance: Instance): Generator<string>;
-/** Makes a library of the module's bytes, which may be packed by gzip, or of a WebAssembly.Module. */
-export function made(module: ArrayBuffer | ArrayBufferView | WebAssembly.Module): Promise<Library>;
+/** Makes a library of a module. */
+export function made(module: Module): Promise<Library>;
 /** As `made`, or of dnorm.wasm.gz beside dnorm.mjs. */
-export function load(module?: ArrayBuffer | ArrayBufferView | WebAssembly.Module): Promise<Library>;
+export function load(module?: Module): Promise<Library>;

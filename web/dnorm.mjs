@@ -1,15 +1,13 @@
 #!/usr/bin/env node
-// Reads DIMACS network files in Node 18 or later, Deno, Bun and browsers, by the proved reader of dnorm as a
-// WebAssembly module: checks them, writes their canonical texts, compares them. dnorm.d.ts describes what is exported.
+// Reads DIMACS network files in browsers, Node 18 or later, Deno and Bun, by the proved reader of dnorm as a module for
+// WebAssembly: checks them, writes their canonical texts, compares them. dnorm.d.ts describes what is exported.
 //
-//     import { load } from './dnorm.mjs';
+//     import { load } from 'dnorm';
 //     const dnorm = await load();
 //     const roads = await dnorm.read('roads.gr');   // or throws Refused: number, name, place
 //     for (const piece of roads.canon()) process.stdout.write(piece);
 //
-// As a command it prints what the program dnorm prints:
-//
-//     node dnorm.mjs compare flow.min flow-cheaper.min
+// cli.mjs is the command.
 
 /** Numbers of refusals, with their names and sentences. */
 export const REFUSALS = {
@@ -77,11 +75,16 @@ export class Refused extends Error {
 
 // Yields the pieces of a text: of bytes, of a Blob or File, a Response, a stream, or whatever yields pieces.
 async function* pieces(source) {
+  if (source === null || typeof source !== 'object') throw new TypeError(`${String(source)} is no source of a text`);
+  if (source.ok === false) throw new TypeError(`the server answered ${source.status}, and no text`);
   if (source instanceof ArrayBuffer || ArrayBuffer.isView(source)) {
     yield source;
     return;
   }
   const stream = source.body ?? (typeof source.stream === 'function' ? source.stream() : source);
+  if (!(stream.getReader || stream[Symbol.asyncIterator] || stream[Symbol.iterator])) {
+    throw new TypeError('a source of a text is bytes, a Blob, a Response, a stream, or what yields pieces of bytes');
+  }
   if (!stream.getReader) {
     yield* stream;
     return;
@@ -111,8 +114,9 @@ function formOf(form) {
 
 /** A module with its memory, in which instances are. */
 export class Library {
-  constructor(calls) {
-    this.calls = calls;
+  constructor(calls, open = opened) {
+    if (!calls?.dnorm_begin) throw new TypeError('load or made makes a library');
+    Object.assign(this, { calls, open });
     this.at = this.block(BYTES + PIECE);
     this.bytes = this.at + BigInt(BYTES);
     // The handle of an instance that is freed. It owns nothing.
@@ -175,7 +179,7 @@ export class Library {
     try {
       this.calls.dnorm_begin(this.at, instance.handle);
       this.fine();
-      for await (const piece of pieces(typeof source === 'string' ? await opened(source) : source)) {
+      for await (const piece of pieces(typeof source === 'string' ? await this.open(source) : source)) {
         const all = bytesOf(piece);
         for (let from = 0; from < all.length; from += PIECE) instance.feed(all.subarray(from, from + PIECE));
         progress?.(all.length, instance);
@@ -253,16 +257,43 @@ export class Instance {
    *  the first `pairs` pairs are passed over. */
   arcs(form = 1, pairs = 0n) {
     const { kind } = this.facts();
-    return this.rows('dnorm_next', [formOf(form)], 5, kind === 'min' ? 5 : 3, pairs);
+    if (typeof pairs !== 'bigint' || pairs < 0n || pairs >= 2n ** 63n) {
+      throw new RangeError(`a number of pairs is a BigInt from 0 to 2^63-1, and not ${pairs}`);
+    }
+    return this.rows(this.blocks('dnorm_next', [formOf(form)], 5, pairs), 5, kind === 'min' ? 5 : 3);
   }
 
   /** The items: [node, flow], [source, sink], [ID], [ID, ID] or [ID, x, y]. */
   items() {
     const { kind } = this.facts();
-    return this.rows('dnorm_items', [], 3, { ss: 1, co: 3 }[kind] ?? 2, 0n);
+    return this.rows(this.blocks('dnorm_items', [], 3, 0n), 3, { ss: 1, co: 3 }[kind] ?? 2);
   }
 
-  *rows(call, words, width, taken, pairs) {
+  /** The canonical arcs as columns: tail, head, and length, or capacity, or low, capacity and cost. */
+  columns(form = 1) {
+    const count = this.arcCount(form);
+    const { kind } = this.facts();
+    const values = { sp: ['length'], max: ['capacity'], min: ['low', 'capacity', 'cost'] }[kind];
+    if (!values) throw new Refused(40);
+    const names = ['tail', 'head', ...values];
+    const made = names.map(() => new BigInt64Array(Number(count)));
+    let at = 0;
+    for (const rows of this.blocks('dnorm_next', [formOf(form)], 5, 0n)) {
+      for (let from = 0; from < rows.length; from += 5, at += 1) {
+        for (let i = 0; i < names.length; i += 1) made[i][at] = rows[from + i];
+      }
+    }
+    return Object.fromEntries(names.map((name, i) => [name, made[i]]));
+  }
+
+  *rows(blocks, width, taken) {
+    for (const rows of blocks) {
+      for (let from = 0; from < rows.length; from += width) yield [...rows.subarray(from, from + taken)];
+    }
+  }
+
+  // Yields rows of so many numbers, many at once.
+  *blocks(call, words, width, pairs) {
     const { library } = this;
     const place = new BigInt64Array([pairs, 0n, 0n, 0n, 0n]);
     const room = Math.floor(PIECE / (8 * width));
@@ -273,8 +304,7 @@ export class Instance {
       if (library.byte(8)) throw new Refused(library.byte(8));
       count = Number(library.unsigned(0));
       place.forEach((_, i) => { place[i] = library.signed(PLACE + 8 * i); });
-      const rows = new BigInt64Array(library.memory(library.bytes, count * width * 8).slice().buffer);
-      for (let from = 0; from < rows.length; from += width) yield [...rows.subarray(from, from + taken)];
+      yield new BigInt64Array(library.memory(library.bytes, count * width * 8).slice().buffer);
     }
   }
 
@@ -293,6 +323,16 @@ export class Instance {
     } finally {
       text.free();
     }
+  }
+
+  /** The forms in which the text that was read is canonical. `isText` tells whether it is the canonical text of a form,
+   *  and is asked only of forms that have as many arcs as the text has lines. */
+  async forms(isText) {
+    const { kind, lines } = this.facts();
+    const is = async (form) => (!GRAPHS.includes(kind) || this.arcCount(form) === lines) && await isText(form);
+    const first = await is(1);
+    const second = kind === 'min' ? await is(2) : first;
+    return [1, 2].filter((form) => [first, second][form - 1]);
   }
 
   /** null if both pose the same problem, or where they differ first. */
@@ -318,6 +358,7 @@ export class Instance {
 
   // An address is one of its own module.
   beside(other) {
+    if (!(other instanceof Instance)) throw new TypeError('the other one is no instance');
     if (other.library !== this.library) throw new TypeError('the instances are of two modules');
     return this.library;
   }
@@ -354,8 +395,13 @@ export function verdict(difference) {
 const READING = ['begin', 'feed', 'finish', 'facts', 'free'].map((it) => `dnorm_${it}`);
 const ASKING = ['arc_count', 'next', 'items', 'canon', 'text', 'compare', 'fits'].map((it) => `dnorm_${it}`);
 
+// Yields the pieces of the file at a path, where there are files.
+let opened = () => {
+  throw new TypeError('a path, and there are no files here: hand over the bytes, as new TextEncoder().encode(text)');
+};
+
 /** Makes a library of the module's bytes, which may be packed by gzip, or of a WebAssembly.Module. */
-export async function made(module) {
+export async function made(module, open = opened) {
   let code = module;
   if (!(module instanceof WebAssembly.Module)) {
     const all = bytesOf(module);
@@ -367,167 +413,14 @@ export async function made(module) {
     const { exports } = await WebAssembly.instantiate(code, {}).then((it) => it.instance ?? it);
     const lacking = [...READING, ...ASKING, 'malloc', 'free', 'memory'].find((it) => !(it in exports));
     if (lacking) throw new TypeError(`the module is of another version of dnorm: it has no ${lacking}`);
-    return new Library(exports);
+    return new Library(exports, open);
   } catch (error) {
     // The memory with which a module begins.
     throw error instanceof RangeError ? new Refused(30) : error;
   }
 }
 
-// A page that has no files overrides this.
-let opened = (path) => { throw new TypeError(`${path} is a path, and there are no files here`); };
 // What follows is not part of the page.
-
-// The module: beside this file, as releases have it, or in a clone, what tools/wasm makes or a release has made.
-const MODULES = ['dnorm.wasm.gz', 'out/dnorm.wasm.gz', '../released/dnorm.wasm.gz'];
-const isFile = import.meta.url.startsWith('file:');
-
-/** Makes a library of a module, as `made` does, or else of dnorm.wasm.gz beside this file. */
-export async function load(module) {
-  if (module) return made(module);
-  if (!isFile) return made(await (await fetch(new URL(MODULES[0], import.meta.url))).arrayBuffer());
-  const [{ existsSync, readFileSync }, { gunzipSync }] = [await import('node:fs'), await import('node:zlib')];
-  const places = MODULES.map((it) => new URL(it, import.meta.url));
-  return made(gunzipSync(readFileSync(places.find((it) => existsSync(it)) ?? places[0])));
-}
-
-if (isFile) {
-  opened = async (path) => (await import('node:fs')).createReadStream(path, { highWaterMark: PIECE });
-}
-
-// The command. It has the lines and the statuses of the program.
-
-const HELP = `Canonicalises, checks and compares DIMACS network instances, by dnorm as a WebAssembly module.
-
-Usage: dnorm.mjs canon [--form 1|2] FILE     writes the canonical form of FILE
-       dnorm.mjs check FILE [--with COMPANION]
-       dnorm.mjs compare LEFT RIGHT          prints the first difference
-       dnorm.mjs show FILE                   shows what FILE contains
-
-FILE may be -, standard input, once. Without arguments: canon -. The lines and exit statuses are those of the program,
-which MANUAL.md describes: 0, or 1 if files differ, 2 if a file is refused, 3 for a bad command line, 4 if memory ran
-out, or a file or standard output failed.
-`;
-const COMMANDS = { canon: { files: 1, option: '--form' }, check: { files: 1, option: '--with' } };
-Object.assign(COMMANDS, { compare: { files: 2 }, show: { files: 1 } });
-
-/** What ends a run: a line for standard error, and the exit status. */
-class Ended extends Error {
-  constructor(line, status) {
-    super(line);
-    this.status = status;
-  }
-}
-
-// What calls for help.
-const isHelp = (word) => /^-h|^--help$/.test(word);
-
-// Understands words as the program does, from left to right. Returns the command, its files and the value of its
-// option; or the name `help`, which is the same for each command. A line of words that no command has ends the run.
-function understood([name, ...rest]) {
-  const bad = new Ended('dnorm: bad command line', 3);
-  const help = { name: 'help' };
-  const isCommand = (word) => Object.hasOwn(COMMANDS, word);
-  const isNamed = name === 'help' && rest.length < 2 && rest.every((it) => it === 'help' || isCommand(it));
-  if (isHelp(name) || isNamed) return help;
-  if (!isCommand(name)) throw bad;
-  const command = COMMANDS[name];
-  const files = [];
-  let value = null;
-  let isOver = false;
-  for (let i = 0; i < rest.length; i += 1) {
-    const [word, given] = rest[i].split(/=(.*)/s);
-    if (isOver || !/^-./s.test(rest[i])) {
-      if (files.push(rest[i]) > command.files) throw bad;
-    } else if (rest[i] === '--') {
-      isOver = true;
-    } else if (isHelp(rest[i])) {
-      return help;
-    } else if (word === command.option && value === null) {
-      value = given ?? rest[i += 1];
-      // A word that may be an option is a value only behind `=`.
-      const isValue = given !== undefined || (value !== undefined && !/^-./s.test(value));
-      if (!isValue || (name === 'canon' && !['1', '2'].includes(value))) throw bad;
-    } else {
-      throw bad;
-    }
-  }
-  if (files.length !== command.files) throw bad;
-  const named = name === 'check' && value !== null ? [...files, value] : files;
-  if (named.length === 2 && named.every((it) => it === '-')) throw new Ended('dnorm: standard input named twice', 3);
-  return { name, files: named, form: Number(value ?? 1) };
-}
-
-// Runs a command, and yields what it prints. Returns the exit status.
-class Command {
-  constructor(library, process, crypto) {
-    Object.assign(this, { library, process, crypto });
-  }
-
-  // Reads a file, or standard input. Each piece goes to `seen`.
-  async read(file, seen = () => {}) {
-    const source = file === '-' ? this.process.stdin : await opened(file);
-    const noted = async function* () {
-      for await (const piece of source) {
-        seen(piece);
-        yield piece;
-      }
-    };
-    try {
-      return await this.library.read(noted());
-    } catch (error) {
-      if (error instanceof Refused) throw new Ended(error.line(file), error.number === 30 ? 4 : 2);
-      // What Node, Deno or Bun says of a file has a code.
-      if (error.code) throw new Ended(`${file}: 31 Read`, 4);
-      throw error;
-    }
-  }
-
-  *written(instance, file, form) {
-    try {
-      yield* instance.canon(form);
-    } catch (error) {
-      throw error instanceof Refused ? new Ended(error.line(file), error.number === 30 ? 4 : 2) : error;
-    }
-  }
-
-  async *canon({ files: [file], form }) {
-    yield* this.written(await this.read(file), file, form);
-    return 0;
-  }
-
-  async *check({ files: [file, companion] }) {
-    const sum = this.crypto.createHash('sha256');
-    const instance = await this.read(file, (piece) => sum.update(piece));
-    const wanted = sum.digest('hex');
-    const forms = [1, 2].filter((form) => {
-      const canonical = this.crypto.createHash('sha256');
-      for (const piece of this.written(instance, file, form)) canonical.update(piece);
-      return canonical.digest('hex') === wanted;
-    });
-    const lines = [`accepted ${instance.facts().kind}`];
-    if (companion !== undefined) {
-      const other = await this.read(companion);
-      const bad = instance.misfit(other);
-      if (bad) throw new Ended(misfitLine(bad, companion), 2);
-      lines.push(`fits ${other.facts().kind}`);
-    }
-    yield `${lines.join('\n')}\nforms ${forms.join(' ') || 'none'}\n`;
-    return 0;
-  }
-
-  async *compare({ files: [left, right] }) {
-    const one = await this.read(left);
-    const difference = one.compare(await this.read(right));
-    yield `${verdict(difference)}\n`;
-    return difference ? 1 : 0;
-  }
-
-  async *show({ files: [file] }) {
-    yield* show(await this.read(file));
-    return 0;
-  }
-}
 
 /** Yields the lines that the program shows of an instance. */
 export function* show(instance) {
@@ -565,45 +458,25 @@ function* bundles(instance) {
   if (last) yield line(last);
 }
 
-async function main(words, process) {
-  // A failing write is told by its callback.
-  process.stdout.on('error', () => {});
-  const write = (piece) => new Promise((resolve, reject) => {
-    process.stdout.write(piece, (error) => (error ? reject(new Ended('out: 33 Write', 4)) : resolve()));
-  });
-  try {
-    if (/^-V|^--version$/.test(words[0])) {
-      const { readFileSync } = await import('node:fs');
-      await write(`dnorm ${JSON.parse(readFileSync(new URL('package.json', import.meta.url))).version}\n`);
-      return 0;
-    }
-    const asked = understood(words.length ? words : ['canon', '-']);
-    if (asked.name === 'help') {
-      await write(HELP);
-      return 0;
-    }
-    const run = new Command(await load(), process, await import('node:crypto'));
-    const printing = run[asked.name](asked);
-    let it = await printing.next();
-    for (; !it.done; it = await printing.next()) await write(it.value);
-    return it.value;
-  } catch (error) {
-    const { message, status } = error instanceof Refused ? { message: 'dnorm: 30 Memory', status: 4 } : error;
-    if (status === undefined) throw error;
-    process.stderr.write(`${message}\n`);
-    return status;
-  }
+// Node, Deno and Bun have what reads files in another module. Its name is no literal, so that a bundle for browsers has
+// no need of it.
+const beside = (name) => import(/* webpackIgnore: true */ /* @vite-ignore */ new URL(name, import.meta.url).href);
+const isFile = /^file:/.test(import.meta.url);
+if (isFile) opened = async (path) => (await beside('node.mjs')).opened(path);
+
+/** Makes a library of a module, as `made` does, or else of dnorm.wasm.gz beside this file. */
+export async function load(module) {
+  if (module) return made(module);
+  if (isFile) return (await beside('node.mjs')).load();
+  const place = new URL('dnorm.wasm.gz', import.meta.url);
+  const answer = await fetch(place);
+  if (!answer.ok) throw new TypeError(`${place}: the server answered ${answer.status}, and no module`);
+  return made(await answer.arrayBuffer());
 }
 
-// Whether this file is what Node runs: Deno, Bun and later versions of Node tell it.
-async function isMain(path) {
-  if (import.meta.main !== undefined) return import.meta.main;
-  const { existsSync, realpathSync } = await import('node:fs');
-  const { fileURLToPath } = await import('node:url');
-  return path !== undefined && existsSync(path) && realpathSync(path) === realpathSync(fileURLToPath(import.meta.url));
-}
-
-if (isFile) {
-  const { default: process } = await import('node:process');
-  if (await isMain(process.argv[1])) process.exitCode = await main(process.argv.slice(2), process);
+// `node dnorm.mjs` is the command, as cli.mjs is. In a bundle this is a file of another name, and where it is imported,
+// another file is run.
+const run = /^file:.*[/]dnorm[.]mjs$/.test(import.meta.url) ? globalThis.process?.argv?.[1] : undefined;
+if (run !== undefined && import.meta.main !== false) {
+  beside('node.mjs').then(({ isThis }) => isThis(run, import.meta.url) && beside('cli.mjs'), () => {});
 }

@@ -3,7 +3,7 @@
    own the memory from __heap_base on, and let it grow. The file needs no C library, no header and no import.
 
    A block is a head of 16 bytes and what follows it. Blocks lie side by side, from the first one to `last`. Free blocks
-   are also in lists, one for each power of two of their sizes, and no two of them are neighbours. tests/web/heap.c
+   are also in lists, one for each power of two of their sizes, and no two of them are neighbours. web/tests/heap.c
    includes this file with TEST, over an array in place of the memory of a module. */
 typedef __SIZE_TYPE__ size;
 _Static_assert(sizeof(size) == 8 && sizeof(void *) == 8, "not a processor of 64 bits");

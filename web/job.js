@@ -1,78 +1,88 @@
 'use strict';
 // The worker of the page: it reads texts, of which the page hands over each piece that it asks for, and posts what they
-// are, one message for each step. It reads no file itself, since WebKit lets no worker of a page that is a file do so.
-// It is one script with the first part of dnorm.mjs.
+// are and how two of them differ. It reads no file itself, since WebKit lets no worker of a page that is a file do so.
+// It is one script with hints.json, the first part of dnorm.mjs, and hints.mjs.
 
-// How many arcs of a pair are drawn.
-const DRAWN = 5000;
-// How many bytes of a refused line are shown.
-const SHOWN = 200;
+// How many corners of a pair are drawn on each side of the difference; how many pairs are listed, arcs of a pair are
+// named, and pairs around a pair are drawn.
+const DRAWN = 500;
+const LISTED = 100;
+const NAMED = 10;
+const AROUND = 30;
 const PAUSE = 100;
+// The greatest text, in bytes, of which a browser computes the checksum at once.
+const MOST_SUMMED = 1e9;
 let library = null;
 let waiting = null;
-const held = [];
+// The instances by the numbers that the page gives its files.
+const held = new Map();
 
 const post = (what, more, moved = []) => postMessage({ what, ...more }, moved);
 const told = ({ number = 0, refusal, sentence, place = null, message }) =>
   ({ number, refusal, sentence, place, message });
 
 // Yields the pieces of a file, from its beginning.
-async function* text(index) {
+async function* text(id) {
   for (let anew = true; ; anew = false) {
     const piece = new Promise((resolve, reject) => { waiting = { resolve, reject }; });
-    post('more', { index, anew });
+    post('more', { id, anew });
     const some = await piece;
     if (!some) return;
     yield some;
   }
 }
 
-// Returns the first bytes of a line. The file is read again.
-async function lineOf(index, number) {
-  let left = number - 1n;
-  const found = [];
-  for await (const piece of text(index)) {
-    let from = 0;
-    for (; left > 0n && from < piece.length; left -= 1n) {
-      const end = piece.indexOf(10, from);
-      if (end < 0) {
-        from = piece.length;
-        break;
+// Whether a file is the canonical text of an instance.
+async function isCanonical(instance, id, form) {
+  const pieces = text(id);
+  let rest = new Uint8Array();
+  for (const canonical of instance.canon(form)) {
+    for (let at = 0; at < canonical.length;) {
+      if (rest.length === 0) {
+        const { value, done } = await pieces.next();
+        if (done) return false;
+        rest = value;
       }
-      from = end + 1;
+      const count = Math.min(rest.length, canonical.length - at);
+      for (let i = 0; i < count; i += 1) if (rest[i] !== canonical[at + i]) return false;
+      rest = rest.subarray(count);
+      at += count;
     }
-    if (left > 0n || from === piece.length) continue;
-    const end = piece.indexOf(10, from);
-    found.push(...piece.subarray(from, Math.min(end < 0 ? piece.length : end, from + SHOWN)));
-    if (end >= 0 || found.length >= SHOWN) break;
   }
-  return new Uint8Array(found.slice(0, SHOWN));
+  return rest.length === 0 && (await pieces.next()).done;
 }
 
-async function readFile(name, index) {
+async function read({ id, name }) {
   let bytes = 0;
   let last = 0;
   const progress = (length, instance) => {
     bytes += length;
     if (Date.now() < last + PAUSE) return;
     last = Date.now();
-    post('progress', { index, name, bytes, facts: instance.facts() });
+    post('progress', { id, bytes, facts: instance.facts() });
   };
+  let instance = null;
   try {
-    held[index] = await library.read(text(index), { progress });
+    instance = await library.read(text(id), { progress });
   } catch (error) {
+    const { number, place = null } = error;
+    const isOfText = number && place !== null;
     // The file may have changed since, and is refused all the same.
-    const shown = typeof error.place === 'bigint' ? await lineOf(index, error.place).catch(() => null) : null;
-    post('refused', { index, name, error: told(error), shown });
+    const cause = isOfText ? await causeOf(HINTS, () => text(id), { number, place, name }).catch(() => null) : null;
+    post('refused', { id, error: told(error), line: error.line?.(name), cause });
     return;
   }
-  const facts = held[index].facts();
-  const arcs = GRAPHS.includes(facts.kind) ? [1, 2].map((form) => held[index].arcCount(form)) : null;
-  post('accepted', { index, name, facts, bytes, arcs });
+  held.set(id, instance);
+  const facts = instance.facts();
+  const arcs = GRAPHS.includes(facts.kind) ? [1, 2].map((form) => instance.arcCount(form)) : null;
+  // A canonical text may need more memory than there is.
+  const forms = await instance.forms((form) => isCanonical(instance, id, form)).catch(() => null);
+  post('accepted', { id, facts, bytes, arcs, forms });
 }
 
-// Returns the first canonical arcs of a pair. The pairs are sorted.
-function arcsOf(instance, tail, head) {
+// Returns the corners of the least costs of a pair around an amount, and at which ends there are more. Behind the units
+// that are forced, which come first, come the others by rising cost; the pairs are sorted.
+function cornersOf(instance, tail, head, around) {
   const isBefore = ([from, to]) => from < tail || (from === tail && to < head);
   let low = 0n;
   let high = instance.facts().pairs;
@@ -81,64 +91,137 @@ function arcsOf(instance, tail, head) {
     if (isBefore(instance.arcs(1, middle).next().value)) low = middle + 1n;
     else high = middle;
   }
-  const found = [];
-  for (const arc of instance.arcs(1, low)) {
-    if (arc[0] !== tail || arc[1] !== head || found.length === DRAWN) break;
-    found.push(arc);
-  }
-  return found;
-}
-
-// Returns the corners of the least costs of a pair by its arcs: behind the forced units come the others by rising cost.
-function curveOf(arcs) {
-  let amount = arcs.reduce((sum, [, , low]) => sum + low, 0n);
-  let cost = arcs.reduce((sum, [, , low, , each]) => sum + low * each, 0n);
-  const corners = [[amount, cost]];
-  for (const [, , low, capacity, each] of arcs) {
-    if (capacity === low) continue;
-    amount += capacity - low;
-    cost += (capacity - low) * each;
+  let [amount, cost, behind, isCut] = [0n, 0n, 0, false];
+  let corners = [[0n, 0n]];
+  for (const [from, to, forced, capacity, each] of instance.arcs(1, low)) {
+    if (from !== tail || to !== head) break;
+    if (behind === DRAWN) return { corners, cuts: [isCut, true] };
+    amount += capacity;
+    cost += capacity * each;
+    if (forced) corners = [];
     corners.push([amount, cost]);
+    if (amount > around && !forced) behind += 1;
+    if (behind === 0 && corners.length > 2 * DRAWN) {
+      corners = corners.slice(-DRAWN);
+      isCut = true;
+    }
   }
-  return corners;
+  return { corners: corners.slice(-DRAWN - behind), cuts: [isCut || corners.length > DRAWN + behind, false] };
 }
 
-function compareBoth([left, right]) {
+// Yields the pairs of a graph, each with its canonical arcs in words, of which the first ones are named.
+function* bundlesOf(instance) {
+  let last = null;
+  for (const [tail, head, ...values] of instance.arcs(1)) {
+    if (last && (last.tail !== tail || last.head !== head)) {
+      yield last;
+      last = null;
+    }
+    last ??= { tail, head, arcs: [] };
+    last.arcs.push(values.join(' '));
+  }
+  if (last) yield last;
+}
+
+const named = (arcs) => (arcs.length > NAMED ? [...arcs.slice(0, NAMED), `and ${arcs.length - NAMED} more`] : arcs);
+
+// Goes through the pairs of two graphs at once, and counts and lists what differs; and the pairs around the one that
+// differs first, those that differ in front.
+function differences(one, other, pair) {
+  const [lefts, rights] = [bundlesOf(one), bundlesOf(other)];
+  const counts = { left: 0, differs: 0, same: 0, right: 0 };
+  const [rows, near] = [[], { differs: [], same: [], count: 0 }];
+  let center = pair;
+  let [left, right] = [lefts.next().value, rights.next().value];
+  while (left || right) {
+    const [a, b] = [left ?? right, right ?? left];
+    const order = !left ? 1 : !right ? -1 : Number(a.tail > b.tail) - Number(a.tail < b.tail)
+      || Number(a.head > b.head) - Number(a.head < b.head);
+    const { tail, head } = order <= 0 ? left : right;
+    const arcs = [order <= 0 ? left.arcs : [], order >= 0 ? right.arcs : []];
+    const isSame = order === 0 && arcs[0].join() === arcs[1].join();
+    const side = isSame ? 'same' : order === 0 ? 'differs' : order < 0 ? 'left' : 'right';
+    counts[side] += 1;
+    if (!isSame) center ??= [tail, head];
+    if (!isSame && rows.length < LISTED) rows.push([tail, head, ...arcs.map(named)]);
+    if (center && [tail, head].some((it) => center.includes(it))) {
+      const list = near[isSame ? 'same' : 'differs'];
+      near.count += 1;
+      const told = [String(tail), String(head), side, ...arcs.map((it) => named(it).join(', ') || 'none')];
+      if (tail === center[0] && head === center[1]) list.unshift(told);
+      else if (list.length < AROUND) list.push(told);
+    }
+    if (order <= 0) left = lefts.next().value;
+    if (order >= 0) right = rights.next().value;
+  }
+  const drawn = [...near.differs, ...near.same].slice(0, AROUND);
+  const around = center && { pair: center.map(String), arcs: drawn, more: near.count - drawn.length };
+  return { counts, rows, around };
+}
+
+// A command of the program with names of files.
+const command = (...words) => `dnorm ${words.map(quoted).join(' ')}`;
+
+function compare({ ids, names }) {
+  const [left, right] = ids.map((id) => held.get(id));
   const kinds = [left, right].map((it) => it.facts().kind);
-  if (kinds[0] === 'sp' && !GRAPHS.includes(kinds[1])) {
-    post('fitted', { misfit: left.misfit(right) });
+  // The order of files that a system hands over is that of their names.
+  const at = kinds.findIndex((it) => !GRAPHS.includes(it));
+  if (at >= 0 && kinds[1 - at] === 'sp') {
+    const misfit = [left, right][1 - at].misfit([left, right][at]);
+    const line = misfit ? misfitLine(misfit, names[at]) : `fits ${kinds[at]}`;
+    post('fitted', { misfit, line, command: command('check', names[1 - at], '--with', names[at]) });
     return;
   }
   const difference = left.compare(right);
+  const line = verdict(difference);
   if (difference?.what === 'kind') [difference.left, difference.right] = kinds;
-  const isCurve = difference?.what === 'pair' && difference.kind === 'min';
-  const arcs = isCurve ? [left, right].map((it) => arcsOf(it, difference.at, difference.to)) : [];
-  const cut = arcs.some((it) => it.length === DRAWN) ? DRAWN : null;
-  post('compared', { difference, curves: isCurve ? arcs.map(curveOf) : null, cut });
+  const isPair = difference?.what === 'pair';
+  const isCurve = isPair && difference.kind === 'min';
+  const { at: tail, to, amount } = difference ?? {};
+  const curves = isCurve ? [left, right].map((it) => cornersOf(it, tail, to, amount)) : null;
+  const isGraph = difference && kinds[0] === kinds[1] && GRAPHS.includes(kinds[0]);
+  let found = isGraph ? differences(left, right, isPair ? [tail, to] : null) : null;
+  // Where a pair is not what differs first, it is known behind the pairs around it.
+  if (found?.around && !isPair) found = differences(left, right, found.around.pair.map(BigInt));
+  post('compared', { difference, line, command: command('compare', ...names), curves, found });
 }
 
-async function run({ module, names }) {
-  library = await made(module);
-  for (const [index, name] of names.entries()) await readFile(name, index);
-  if (held[0] && held[1]) compareBoth(held);
+async function canon({ id, form }) {
+  let parts = [];
+  for (const piece of held.get(id).canon(form)) {
+    parts.push(piece);
+    // The browser may keep a Blob outside of its memory.
+    if (parts.length === 64) parts = [new Blob(parts)];
+  }
+  const made = new Blob(parts, { type: 'text/plain' });
+  post('canon', { id, form, text: made, sum: await checksum(made) });
 }
 
-function canon({ index, form }) {
-  for (const piece of held[index].canon(form)) post('part', { piece }, [piece.buffer]);
-  post('canon', { index, form });
+// Browsers compute it in a page that is a file, or comes by https or from this machine.
+async function checksum(of) {
+  if (!globalThis.crypto?.subtle) return 'not computed: this page came by http';
+  if (of.size > MOST_SUMMED) return 'not computed: the text is above 1 GB';
+  const sum = new Uint8Array(await crypto.subtle.digest('SHA-256', await of.arrayBuffer()));
+  return [...sum].map((it) => it.toString(16).padStart(2, '0')).join('');
 }
+
+const JOBS = { read, compare, canon };
 
 onmessage = async ({ data }) => {
-  if ('piece' in data) {
-    waiting.resolve(data.piece);
+  if (data.what === 'piece') {
+    if (data.why) waiting.reject(new Error(data.why));
+    else waiting.resolve(data.piece);
     return;
   }
-  if ('unread' in data) {
-    waiting.reject(new Error(data.unread));
+  if (data.what === 'forget') {
+    held.get(data.id)?.free();
+    held.delete(data.id);
     return;
   }
   try {
-    await (data.names ? run(data) : canon(data));
+    if (data.module) library = await made(data.module);
+    await JOBS[data.what](data);
   } catch (error) {
     post('failed', { error: told(error) });
   }

@@ -1,92 +1,32 @@
 'use strict';
-// Draws what the pages of `dnorm-files look` have besides their text: the costs of a pair, by look.js, and the arcs
+// Draws what the pages of `dnorm-files look` have besides their text: by look.js, the costs of a pair and the arcs
 // around it; the sizes of the files of a folder, and a table of them. Numbers are texts: they have up to 128 bits.
 
-const { costs, grouped, make } = look;
+const { around, costs, draw, figure, grouped, make, picture } = look;
 const data = JSON.parse(document.getElementById('data').textContent);
 // How many files the table shows at once.
 const SHOWN = 300;
-const SIZE = { width: 720, height: 320, left: 60, right: 20, top: 36, bottom: 40 };
-const SIDES = { same: ['soft', 1.2], left: ['left', 2.5], right: ['right', 2.5], differs: ['bad', 2.5] };
+const EDGES = { left: 60, right: 20, top: 36, bottom: 40 };
+const HEIGHT = 320;
+const names = data.sides ?? ['left', 'right'];
 
-function draw(tag, words, ...inside) {
-  const it = document.createElementNS('http://www.w3.org/2000/svg', tag);
-  for (const [key, value] of Object.entries(words)) it.setAttribute(key, value);
-  it.append(...inside);
-  return it;
-}
-
-const box = (said, ...inside) =>
-  draw('svg', { viewBox: `0 0 ${SIZE.width} ${SIZE.height}`, role: 'img', 'aria-label': said }, ...inside);
-
-function showCosts({ curves, cut, left, right, ...numbers }) {
+function showCosts({ curves, cuts = [], cut, left, right, ...numbers }) {
   const whole = (text) => (text === null ? null : BigInt(text));
   const difference = Object.fromEntries(Object.entries({ left, right, ...numbers }).map(([k, v]) => [k, whole(v)]));
-  const corners = curves.map((curve) => curve.map((corner) => corner.map(BigInt)));
-  const note = cut ? [make('p', {}, `Of a side, only the first ${grouped(cut)} corners are drawn.`)] : [];
-  document.getElementById('costs').append(...note, ...costs(difference, corners));
-}
-
-// The places of nodes: the pair in the middle, and the others on an ellipse around it.
-function placed(pair, arcs) {
-  const others = [...new Set(arcs.flatMap(([tail, head]) => [tail, head]))].filter((it) => !pair.includes(it));
-  const { width, height } = SIZE;
-  const places = new Map(pair.map((node, i) => [node, [width * (0.36 + 0.28 * i), height / 2]]));
-  others.forEach((node, i) => {
-    const angle = (2 * Math.PI * (i + 0.5)) / others.length;
-    places.set(node, [width / 2 + width * 0.45 * Math.cos(angle), height / 2 + height * 0.43 * Math.sin(angle)]);
-  });
-  return places;
-}
-
-function arc([tail, head, side, left, right], places) {
-  const [colour, wide] = SIDES[side];
-  const [[x, y], [u, v]] = [places.get(tail), places.get(head)];
-  // Arcs of both directions bend to two sides, and a loop goes around beside its node.
-  const bent = `Q${(x + u) / 2 + (v - y) * 0.12} ${(y + v) / 2 - (u - x) * 0.12} ${u} ${v}`;
-  const loop = `M${x - 5} ${y}C${x - 30} ${y - 45} ${x + 30} ${y - 45} ${x + 5} ${y}`;
-  const d = tail === head ? loop : `M${x} ${y}${bent}`;
-  const look = { stroke: `var(--${colour})`, 'stroke-width': wide, 'marker-end': `url(#to-${colour})`, fill: 'none' };
-  if (side === 'right') look['stroke-dasharray'] = '7 5';
-  return draw('path', { d, ...look }, draw('title', {}, `from ${tail} to ${head}: left ${left}; right ${right}`));
-}
-
-function node([name, [x, y]], pair) {
-  const fill = pair.includes(name) ? 'var(--back)' : 'var(--card)';
-  const words = { x, y: y + 4, 'text-anchor': 'middle' };
-  const wide = Math.max(22, name.length * 8 + 8);
-  const shape = { x: x - wide / 2, y: y - 11, width: wide, height: 22, rx: 11, fill, stroke: 'var(--soft)' };
-  return [draw('rect', shape), draw('text', words, name)];
-}
-
-function showAround({ pair, arcs, more }) {
-  const places = placed(pair, arcs);
-  const colours = [...new Set(Object.values(SIDES).map(([colour]) => colour))];
-  const markers = colours.map((it) => draw('marker', {
-    id: `to-${it}`, viewBox: '0 0 8 8', refX: 17, refY: 4, markerWidth: 7, markerHeight: 7, orient: 'auto',
-    markerUnits: 'userSpaceOnUse',
-  }, draw('path', { d: 'M0 0L8 4L0 8z', fill: `var(--${it})` })));
-  const count = (side) => arcs.filter((it) => it[2] === side).length;
-  const said = Object.keys(SIDES).map((side) => `${count(side)} ${side}`).join(', ');
-  const lines = [...arcs].reverse().map((it) => arc(it, places));
-  const nodes = [...places].flatMap((it) => node(it, pair));
-  const told = { same: 'in both', left: 'only left', right: 'only right', differs: 'different' };
-  const style = (side) =>
-    `border-color: var(--${SIDES[side][0]}); border-top-style: ${side === 'right' ? 'dashed' : 'solid'}`;
-  const keys = Object.keys(SIDES).map((side) =>
-    make('span', {}, make('span', { class: 'key', style: style(side) }), `${told[side]} ${count(side)}`));
-  const svg = box(`Pairs with arcs around the pair from ${pair[0]} to ${pair[1]}: ${said}.`,
-    draw('defs', {}, ...markers), ...lines, ...nodes);
-  const rest = more ? make('p', { class: 'soft' }, `${grouped(more)} more pairs are not drawn.`) : null;
-  document.getElementById('around').append(...[make('figure', {}, make('div', { class: 'row' }, ...keys), svg), rest]
-    .filter((it) => it));
+  const all = curves.map((curve, i) => ({ corners: curve.map((corner) => corner.map(BigInt)), cuts: cuts[i] }));
+  const note = cut ? [make('p', {}, `Of a file, only ${grouped(cut)} corners are drawn.`)] : [];
+  document.getElementById('costs').append(...note, ...costs(difference, all, names));
 }
 
 // The cells of a column, by file.
 const cells = (files, name, count) => (files[name] ? files[name].split(' ') : Array(count).fill(''));
 
+// The numbers on a logarithmic scale: powers of ten, or where these are few, also their doubles and fivefolds.
 function ticks(most, at) {
-  return [...Array(Math.floor(most) + 1).keys()].map((power) => draw('text', at(power), `10^${power}`));
+  const powers = [...Array(Math.floor(most) + 1).keys()];
+  const steps = most < 3 ? [1, 2, 5] : [1];
+  const numbers = powers.flatMap((power) => steps.map((it) => it * 10 ** power)).filter((it) => it <= 10 ** most);
+  return numbers.map((it) => draw('text', at(Math.log10(it)), it < 1000 ? it : `10^${Math.log10(it)}`));
 }
 
 // Files of one kind at one place of the picture are one circle.
@@ -102,9 +42,14 @@ function showSizes(files, names) {
   }
   const most = (of) => drawn.reduce((found, i) => Math.max(found, of[i]), 1);
   const [right, top] = [most(xs), most(ys)];
-  const { width, height } = SIZE;
-  const x = (it) => SIZE.left + ((width - SIZE.left - SIZE.right) * it) / right;
-  const y = (it) => height - SIZE.bottom - ((height - SIZE.bottom - SIZE.top) * it) / top;
+  place.append(figure((width) => {
+    const x = (it) => EDGES.left + ((width - EDGES.left - EDGES.right) * it) / right;
+    const y = (it) => HEIGHT - EDGES.bottom - ((HEIGHT - EDGES.bottom - EDGES.top) * it) / top;
+    return [sizesOf(files, names, { nodes, arcs, kind, xs, ys, drawn, right, top, x, y, width })];
+  }));
+}
+
+function sizesOf(files, names, { nodes, arcs, kind, xs, ys, drawn, right, top, x, y, width }) {
   const bins = new Map();
   for (const i of drawn) {
     const key = `${Math.round(x(xs[i]))} ${Math.round(y(ys[i]))} ${kind[i]}`;
@@ -120,17 +65,16 @@ function showSizes(files, names) {
     return draw('circle', { cx, cy, r, ...look }, draw('title', {}, said));
   });
   const end = { 'text-anchor': 'end' };
-  const axes = `M${SIZE.left} ${SIZE.top}V${height - SIZE.bottom}H${width - SIZE.right}`;
-  place.append(make('figure', {}, box(
+  const axes = `M${EDGES.left} ${EDGES.top}V${HEIGHT - EDGES.bottom}H${width - EDGES.right}`;
+  return picture(width, HEIGHT,
     `${grouped(drawn.length)} graphs by their nodes, up to ${grouped(Math.round(10 ** right))}, and their arcs, up to `
       + `${grouped(Math.round(10 ** top))}, on logarithmic scales.`,
     draw('path', { d: axes, fill: 'none', stroke: 'var(--line)' }),
-    ...ticks(right, (it) => ({ x: x(it), y: height - SIZE.bottom + 18, 'text-anchor': 'middle' })),
-    ...ticks(top, (it) => ({ x: SIZE.left - 8, y: y(it) + 4, ...end })),
-    draw('text', { x: width - SIZE.right, y: height - 6, ...end }, 'nodes'),
-    draw('text', { x: SIZE.left - 8, y: SIZE.top - 16, ...end }, 'arcs'),
-    ...dots,
-  )));
+    ...ticks(right, (it) => ({ x: x(it), y: HEIGHT - EDGES.bottom + 18, 'text-anchor': 'middle' })),
+    ...ticks(top, (it) => ({ x: EDGES.left - 8, y: y(it) + 4, ...end })),
+    draw('text', { x: width - EDGES.right, y: HEIGHT - 6, ...end }, 'nodes'),
+    draw('text', { x: EDGES.left - 8, y: EDGES.top - 16, ...end }, 'arcs'),
+    ...dots);
 }
 
 // The columns of the table: what the head says, a text for each file, and whether they are numbers.
@@ -142,6 +86,7 @@ function tableOf(files, names) {
   const numbers = [['Bytes', 'bytes'], ['Nodes', 'nodes'], ['Lines', 'declared'], ['Canonical', 'canonical'],
     ['Merged', 'merged'], ['Self-loops', 'self_loops'], ['Group', 'group']];
   const since = files.since ? [['Since', listed('since', files.sinces)]] : [];
+  if (files.line) numbers.unshift(['Fault at line', 'line']);
   return [
     ...[...texts, ...since].map(([head, column]) => ({ head, column, isNumber: false })),
     ...numbers.map(([head, name]) => ({ head, column: of(name), isNumber: true })),
@@ -160,7 +105,10 @@ function showFiles(files, names) {
   const columns = tableOf(files, names);
   const found = columns.filter((it) => !it.isNumber).map((it) => it.column);
   const searched = names.map((_, i) => found.map((column) => column[i]).join(' ').toLowerCase());
-  const state = { by: 0, down: false, shown: SHOWN, order: names.map((_, i) => i) };
+  // What is not accepted comes first.
+  const isFaulty = cells(files, 'kind', names.length).map((it) => ['refused', 'failed'].includes(files.kinds[it]));
+  const order = names.map((_, i) => i).sort((i, j) => isFaulty[j] - isFaulty[i] || i - j);
+  const state = { by: null, down: false, shown: SHOWN, order };
   const label = 'Filter by name, kind, cause or remark';
   const filter = make('input', { type: 'search', id: 'filter', 'aria-label': label, placeholder: 'Filter' });
   const told = make('p', { role: 'status', id: 'told' });
@@ -211,9 +159,9 @@ function showFiles(files, names) {
 }
 
 if (data.cost) showCosts(data.cost);
-if (data.around) showAround(data.around);
+if (data.around) document.getElementById('around').append(...around(data.around, names));
 if (data.files) {
-  const names = data.files.names === '' ? [] : data.files.names.split('\n');
-  showSizes(data.files, names);
-  showFiles(data.files, names);
+  const all = data.files.names === '' ? [] : data.files.names.split('\n');
+  showSizes(data.files, all);
+  showFiles(data.files, all);
 }

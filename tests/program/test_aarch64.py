@@ -2,16 +2,15 @@
 `compare`. The C functions of c/runtime-aarch64.c, and those of the kit in whose place they are, do what their contracts
 say (aarch64.c).
 
-The program is the one under test, if that is for aarch64; or else the released one, if it was made from the sources
-that are here, or the one that tools/aarch64 has built. One that is under test is also tested at length. A static
-program runs random texts (test_search). One that is linked dynamically from the object beside it runs with reads and
-writes cut to one byte (test_answers) and with allocations refused (test_memory). The library for C beside it runs
-orders of calls, allocations that fail and threads (tests/library/library.c). In a Python for arm64 that apt-get
-downloads, it runs the tests of the library through ctypes, and the package for Python finds it where Debian has it.
+The program is the one under test, if that is for aarch64; or else the one that make has built, or the released one.
+One that is under test is also tested at length. A static program runs random texts (test_search). One that is linked
+dynamically from the object beside it runs with reads and writes cut to one byte (test_answers) and with allocations
+refused (test_memory). The library for C beside it runs orders of calls, allocations that fail and threads
+(c/tests/library.c). In a Python for arm64 that apt-get downloads, it runs the tests of the library through ctypes, and
+the package for Python finds it where Debian has it.
 
 This machine emulates the processor, so neither speed nor a limit of memory is tested."""
 
-import gzip
 import os
 import re
 import shutil
@@ -20,11 +19,11 @@ from collections.abc import Sequence
 
 import pytest
 from known import ROADS
-from needs import leave_out, need, pass_over, passes
-from shared import ROOT, bytes_of, run, said, text_of, write
+from needs import cases, leave_out, need, pass_over, passes
+from shared import ROOT, run, said, write
 
-pytestmark = pytest.mark.whole
-BUILT = f"{ROOT}/crates/dnorm/out/aarch64/dnorm"
+pytestmark = [pytest.mark.slow, pytest.mark.arm]
+BUILT = f"{ROOT}/build/aarch64/dnorm"
 RELEASED, TESTS = f"{ROOT}/released", f"{ROOT}/tests"
 COMPILER, QEMU, SYSTEM = "aarch64-linux-gnu-gcc", "qemu-aarch64", "/usr/aarch64-linux-gnu"
 WARNINGS = ["-O2", "-std=c11", "-Wall", "-Wextra", "-Wpedantic", "-Werror", "-pthread"]
@@ -73,15 +72,9 @@ def is_for_aarch64(path: str) -> bool:
     return head[:4] == b"\x7fELF" and head[PROCESSOR] == AARCH64
 
 
-def program_here(folder: str) -> str:
-    """Returns the released program, unpacked in a folder, if it was made from the sources that are here, or else the
-    built one."""
-    if os.path.exists(f"{RELEASED}/aarch64/dnorm.gz"):
-        wanted = re.search(r"^sources of the program: (\w+)$", text_of(f"{RELEASED}/buildinfo"), re.M)
-        if wanted and run([f"{ROOT}/tools/source-sum", "program"]).out.decode().strip() == wanted[1]:
-            write(f"{folder}/released", gzip.decompress(bytes_of(f"{RELEASED}/aarch64/dnorm.gz")), 0o755)
-            return f"{folder}/released"
-    return BUILT
+def program_here() -> str:
+    """Returns the built program, or else the released one."""
+    return BUILT if os.path.exists(BUILT) else f"{RELEASED}/aarch64/dnorm"
 
 
 class Emulated:
@@ -114,9 +107,9 @@ def compiled(result: str, words: Sequence[str]) -> str:
 def emulated(tested: str, tmp_path_factory: pytest.TempPathFactory) -> Emulated:
     need(QEMU, "cc")
     folder = str(tmp_path_factory.mktemp("aarch64"))
-    chosen = tested if is_for_aarch64(tested) else program_here(folder)
+    chosen = tested if is_for_aarch64(tested) else program_here()
     if not is_for_aarch64(chosen):
-        pass_over(f"{chosen} (tools/aarch64 builds it)")
+        pass_over(f"{chosen} (make aarch64 builds it)")
     return Emulated(chosen, folder)
 
 
@@ -133,9 +126,11 @@ def test_answers(emulated: Emulated) -> None:
     passes(emulated.program, f"{TESTS}/program/test_answers.py", CI="", limit=MOST)
 
 
-def test_conformance(emulated: Emulated) -> None:
+def test_conformance(tested: str, emulated: Emulated) -> None:
+    """All cases on the program under test, and on another one, which a release has tested so, each eighth."""
     # A call that is emulated on a busy machine may take long.
-    words = [f"{ROOT}/share/conformance/run.py", "--level", "compare", "--limit", str(MOST)]
+    words = [f"{ROOT}/suite/run.py", "--level", "compare", "--limit", str(MOST)]
+    words += cases(1 if emulated.tested == tested else 8)
     ran = run([*words, emulated.program], limit=MOST)
     assert SUITE.fullmatch(ran.out.decode()) and ran.status == 0, (ran.out + ran.err).decode()
 
@@ -158,7 +153,7 @@ def test_c_functions(emulated: Emulated, folder: str, build: str) -> None:
 
 
 def test_random_texts(at_length: Emulated) -> None:
-    passes(at_length.program, f"{TESTS}/program/test_search.py", "--quick", CI="", limit=MOST)
+    passes(at_length.program, f"{TESTS}/program/test_search.py", "-m", "not slow", CI="", limit=MOST)
 
 
 @pytest.mark.parametrize("name, every", [("answers", 1), ("memory", 5)])
@@ -174,7 +169,7 @@ def test_preloaded(at_length: Emulated, folder: str, name: str, every: int) -> N
     # A file of another kind than ELF may be a program that loads libraries.
     write("tools/dnorm", f"#!{at_length.wrapper('wrapper', dynamic, 2)}\n", 0o755)
     # The built test of the libraries is for this machine. In another folder than the repository, none is found.
-    for it in ["tests", "examples/refused", "share/conformance"]:
+    for it in ["tests", "examples/refused", "suite"]:
         shutil.copytree(f"{ROOT}/{it}", it)
     path = f"{folder}/tools:{os.environ['PATH']}"
     words = [f"{folder}/tests/program/test_{name}.py", f"--every={every}"]
@@ -185,7 +180,7 @@ def test_library_in_c(at_length: Emulated, folder: str) -> None:
     """Orders of calls of the library for C, allocations that fail, and threads."""
     wraps = [f"-Wl,--wrap={it}" for it in ("malloc", "realloc", "free")]
     # gcc makes a calloc, which is not wrapped, of malloc and memset.
-    words = [COMPILER, "-fno-builtin-malloc", f"-I{ROOT}/c", *wraps, f"{ROOT}/tests/library/library.c"]
+    words = [COMPILER, "-fno-builtin-malloc", f"-I{ROOT}/c", *wraps, f"{ROOT}/c/tests/library.c"]
     words.append(at_length.beside("lib/libdnorm.a"))
     tested = [at_length.qemu, "-L", SYSTEM, compiled(f"{folder}/library", words)]
     assert run([*tested, "orders", "4"]) == said(f"{11**4} orders\n")

@@ -1,5 +1,5 @@
 """The completions that tools/generate makes: bash, zsh and fish complete commands, options, forms and files, each with
-the file where `./install` installs it."""
+the file where `bin/install` installs it."""
 
 import argparse
 import os
@@ -11,7 +11,7 @@ from needs import leave_out, need, need_proc, terminal
 from shared import Answer, run, said, write
 from test_share import FILES, PARTS
 
-from dnorm.commands.line import TASKS, parser
+from dnorm.commands.line import OWN, TASKS, parser
 from dnorm.parts.line import parser as parts_parser
 
 # Command lines, and the completions of the last word of each, in a folder with the files check, g.gr and s.ss.
@@ -35,7 +35,9 @@ COMPLETED = [
     ("dnorm help ", "show check canon compare help"),
     ("dnorm help s", "show"),
     ("dnorm help show ", ""),
-    ("dnorm-files c", "check compare"),
+    ("dnorm-files c", "canon check compare"),
+    ("dnorm-files sh", "show"),
+    ("dnorm-files canon --o", "--output"),
     ("dnorm-files --v", "--version"),
     ("dnorm-files check --ex", "--exclude --exit-first"),
     ("dnorm-files check g", "g.gr"),
@@ -60,7 +62,7 @@ def values() -> Iterator[tuple[str, str]]:
     file follows an option without a value or with that of a file, and nothing that is known another value; and a line
     with the beginning of all options of a command."""
     (tasks,) = (it for it in parser()._actions if isinstance(it, argparse._SubParsersAction))
-    found = {f"dnorm-files {task}": tasks.choices[task] for task in TASKS}
+    found = {f"dnorm-files {task}": tasks.choices[task] for task in {**TASKS, **OWN}}
     for words, one in {**found, "canon-in-parts": parts_parser()}.items():
         options = [it for it in one._actions if it.option_strings]
         yield f"{words} --", " ".join(it.option_strings[-1] for it in options)

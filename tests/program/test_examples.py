@@ -1,6 +1,6 @@
 """The examples in README.md and in the pages of docs/ for users: each block of commands that a block of output follows.
 Both streams together must be this output. The blocks of a section run in one shell, in a fresh folder that has
-examples/, web/, the program as ./dnorm, ./dnorm-files and ./dnorm-explain, with what `./install` installs on its path;
+examples/, web/, ./dnorm, ./dnorm-files and bin/dnorm-explain, with what `bin/install` installs on its path;
 the shell is bash only if a block asks for it. Then the blocks of all sections of a page run in
 one bash. A block that begins with a comment with the name of a file is written to that file first.
 
@@ -34,8 +34,8 @@ NEEDS |= {"static=dnorm": "libdnorm", "~/.local/share/doc/dnorm/c/examples/least
 # The modules of Python that a plain system may lack, by their words.
 MODULES = ["networkx", "scipy", "numpy"]
 NEEDS |= {it: it for it in MODULES}
-# Where tools/c-library puts the library for C.
-LIBRARY = f"{ROOT}/c/out"
+# Where the library for C is.
+LIBRARY = f"{ROOT}/build/prefix"
 # Recipes for a file: their page and section, the beginning of the commands, the file, and the status for a file that is
 # refused and for one that is unreadable.
 RECIPES = [
@@ -122,7 +122,7 @@ class Examples:
         self.install(tested, made)
 
     def install(self, tested: str, made: str) -> None:
-        """Installs below ~/.local what `./install` installs, and makes the folder that fresh folders are copies of."""
+        """Installs below ~/.local by `bin/install`, and makes the folder that fresh folders are copies of."""
         for mode, place, to in listed():
             source = source_of(place, tested, made)
             if os.path.exists(source) or is_there("libdnorm"):
@@ -131,7 +131,7 @@ class Examples:
             os.symlink(target, f"{self.folder}/home/.local/{to}")
         os.mkdir(f"{self.folder}/fresh")
         os.symlink(tested, f"{self.folder}/fresh/dnorm")
-        for it in ["dnorm-files", "dnorm-explain", "web"]:
+        for it in ["bin", "dnorm-files", "web"]:
             os.symlink(f"{ROOT}/{it}", f"{self.folder}/fresh/{it}")
         shutil.copytree(f"{ROOT}/examples", f"{self.folder}/fresh/examples")
 
@@ -191,7 +191,7 @@ def test_section(examples: Examples, head: str) -> None:
     examples.try_all("bash" if is_bash else "sh", blocks)
 
 
-@pytest.mark.whole
+@pytest.mark.slow
 @pytest.mark.parametrize("examples", PAGES, indirect=True)
 def test_sections_together(examples: Examples) -> None:
     examples.try_all("bash", [it for own in examples.sections.values() if not examples.lacking(own) for it in own])
@@ -223,15 +223,15 @@ def test_recipe(
         assert (ran.status, left) == (status, ["given"] if given else []), f"{given!r}: {ran.out!r}"
 
 
-@pytest.mark.whole
+@pytest.mark.slow
 def test_installed_readme(tested: str, folder: str) -> None:
-    """README.md as ./install installs it: its commands run where it lies, by what is installed, and its links lead to
+    """README.md as bin/install installs it: its commands run where it lies, by what is installed, and its links lead to
     what is there."""
     prefix = f"{folder}/a prefix"
-    found = run([f"{ROOT}/install", prefix], limit=5 * LIMIT)
+    found = run([f"{ROOT}/bin/install", prefix], limit=5 * LIMIT)
     if found.status == 125:
         leave_out("the kit")
-    assert (found.err, found.status) == (b"", 0), "./install"
+    assert (found.err, found.status) == (b"", 0), "bin/install"
     shutil.copy(tested, f"{prefix}/bin/dnorm")
     pages = f"{prefix}/share/doc/dnorm"
     assert run([sys.executable, f"{ROOT}/tools/pages.py", pages]) == said(), "links"

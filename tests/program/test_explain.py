@@ -17,20 +17,25 @@ from known import ROADS
 from needs import leave_out, pass_over, terminal
 from shared import LIMIT, ROOT, Answer, bytes_of, listed, make, run, said, source_of, write
 
-EXPLAIN = f"{ROOT}/dnorm-explain"
+from dnorm.refusals import REFUSALS
+
+EXPLAIN = f"{ROOT}/bin/dnorm-explain"
+SENTENCES = {it[1] for it in REFUSALS.values()}
 pytestmark = pytest.mark.usefixtures("folder")
 # Refused files, and the lines that dnorm-explain prints below their refusals.
+ROWS_OF_LETTERS = "Lines begin with p, n, a, s, q or v, and comments with c"
 COUNTS = "only a, s, q and v lines count"
 PAGE = "The file is a page of the web, as a server sends for an error or a login: get the file again"
 SUM = f"The capacities from 1 to 2 sum to {2**63 - 1} before this line, and with it to {2**63}"
 CONFLICT = "The line is of a conflict that git could not merge: keep one side, and remove such lines"
 EXPLAINED: list[tuple[str, bytes, list[str]]] = [
     ("a.gr", b"p sp 2 1\na 1 2 7\n \ta 2 1 4\r\n", ["line 3:  ^Ia 2 1 4^M", f"declared 1, found 2: {COUNTS}"]),
-    ("b c.ss", b"c p\n\tp aux sp ss 2\r\ns 1\nab\n", ["line 4: ab"]),
+    ("b c.ss", b"c p\n\tp aux sp ss 2\r\ns 1\nab\n", ["line 4: ab", ROWS_OF_LETTERS]),
     ("d.ss", b"c p\n\tp aux sp ss 2\r\ns 1\n", [f"declared 2, found 1: {COUNTS}"]),
     ("e.gr", b"p sp 2 1\na 0 1 7\n", ["line 2: a 0 1 7", "NODES 2: nodes count from 1"]),
-    ("f.ss", b"p aux sp ss 1\ns 0\n", ["line 2: s 0"]),
-    ("g.gr", b"p sp 2 1\n" + 900 * b"x\xff", [f"line 2: {100 * 'xM-^?'}"]), ("h.gr", b"", ["The file is empty"]),
+    ("f.ss", b"p aux sp ss 1\ns 0\n", ["line 2: s 0", "IDs count from 1"]),
+    ("g.gr", b"p sp 2 1\n" + 900 * b"x\xff", [f"line 2: {100 * 'xM-^?'}", ROWS_OF_LETTERS]),
+    ("h.gr", b"", ["The file is empty"]),
     ("i.min", b"p min 2 0\nn 2 1\nn 2 2\n", ["line 3: n 2 2", "Node 2 came first in line 2"]),
     ("j.max", b"p max 2 2\nn 1 s\nn 2 t\na 1 2 9223372036854775807\na 1 2 1\n", ["line 5: a 1 2 1", SUM]),
     ("k.gr", b"version https://git-lfs.github.com/spec/v1\noid sha256:0\n", ["line 1: version https://git-lfs.github"
@@ -41,7 +46,7 @@ EXPLAINED: list[tuple[str, bytes, list[str]]] = [
         enumerate([b"<!DOCTYPE html>\n", b"<HTML><body>\n", b'<?xml version="1.0"?>\n<html>'])],
     *[(f"n{at}.gr", b"p sp 2 1\n" + text + b"\na 1 2 3\n", [f"line 2: {text.decode()}", CONFLICT]) for at, text in
         enumerate([b"<<<<<<< HEAD", b"||||||| 1234567", b"=======", b">>>>>>> branch"])],
-    ("o.gr", b"p sp 2 1\n==\n", ["line 2: =="]),
+    ("o.gr", b"p sp 2 1\n==\n", ["line 2: ==", ROWS_OF_LETTERS]),
 ]  # fmt: skip
 # Command lines that dnorm refuses, in a folder with the files t.gr and u.gr, and what dnorm-explain says of them.
 WRONG_WORDS = [
@@ -53,7 +58,7 @@ WRONG_WORDS = [
     ("check t.gr u.gr", "check takes one file, and not 2; for several: dnorm-files check FILES.."),
     ("check", "check takes one file, and not 0; - is standard input"),
     ("-", "a command comes before the file: dnorm check -"),
-    ("13", "13 NodeOutOfRange: A node is not in 1 to NODES; in a companion, below 1."),
+    ("13 14", "13 NodeOutOfRange: A node is not in 1 to NODES; in a companion, below 1."),
     ("explain 13", "dnorm has no command explain: the nearest is help"),
     ("canon t.gr -o out", "canon has no option -o: it has --form"),
     ("check \udcff.gr", "dnorm takes no name that is not UTF-8: dnorm check - < $'\\xff.gr'"),
@@ -121,19 +126,26 @@ def test_help() -> None:
 
 @pytest.mark.parametrize("given, status", STATUSES, ids=repr)
 def test_status(given: str, status: int) -> None:
-    assert run([EXPLAIN], given.encode()) == said(given, b"", status)
+    """The status, and that each line is printed, with the sentence of its refusal below it."""
+    found, wanted = run([EXPLAIN], given.encode()), ""
+    for line in given.splitlines(True):
+        number = re.search(r": (\d+) [A-Z]", line)
+        wanted += line + (f"    {REFUSALS[int(number[1])][1]}\n" if number else "")
+    told = found.out.decode().splitlines(True)
+    kept = [it for it in told if not it.startswith("    ") or it.strip() in SENTENCES]
+    assert ("".join(kept), found.err, found.status) == (wanted, b"", status)
 
 
 def test_name_with_line_end(prefix: str) -> None:
     write("new\nline.gr", b"p sp 2 1\na 1 3 5\n")
     found = run([f"{prefix}/bin/dnorm-explain", "check", "new\nline.gr"])
-    assert b"\n    line 2: a 1 3 5\n" in found.err
+    assert b"\n    line 2: a 1 3 5\n                ^\n" in found.err
 
 
 def test_swapped_files() -> None:
-    swapped = b"s.ss: 36 NotKinds\n"
+    swapped = b"s.ss: 36 NotKinds\n    FILE is not an sp graph, or COMPANION is no companion.\n"
     hint = b"    The graph comes first, an sp text, and then the companion, an ss, p2p or co text\n"
-    assert run([EXPLAIN], swapped) == said(swapped + hint, b"", 2)
+    assert run([EXPLAIN], swapped.splitlines(True)[0]) == said(swapped + hint, b"", 2)
 
 
 @pytest.mark.parametrize("text, line", MARKED, ids=repr)
@@ -145,8 +157,14 @@ def test_other_file(text: bytes, line: str) -> None:
 @pytest.mark.parametrize("name, text, lines", EXPLAINED, ids=[it[0] for it in EXPLAINED])
 def test_refused_file(tested: str, name: str, text: bytes, lines: list[str]) -> None:
     write(name, text)
-    told = run([tested, "check", name]).err
-    assert run([EXPLAIN], told) == said(told + "".join(f"    {it}\n" for it in lines).encode(), b"", 2)
+    told = run([tested, "check", name]).err.decode()
+    found = run([EXPLAIN], told.encode())
+    first, sentence, *others = found.out.decode().splitlines(True)
+    number = int(re.findall(r": (\d+) ", told)[-1])
+    assert (first, sentence, found.err, found.status) == (told, f"    {REFUSALS[number][1]}\n", b"", 2)
+    # What tests of the package know: the mark below the line, and the row.
+    others = [it[4:-1] for it in others if it.strip(" ^\n") and not re.match(r"    [a-z] [A-Z0-9|]+=", it)]
+    assert others == lines
 
 
 @pytest.mark.parametrize("text, line", MENDED, ids=[line for _, line in MENDED])
@@ -170,7 +188,8 @@ def test_unreadable_file(name: str) -> None:
     write("secret", b"x\n")
     os.chmod("secret", 0)
     line = f"{name}: 31 Read\n"
-    assert run([EXPLAIN], line.encode()) == said(f"{line}    {REASONS[name]}\n", b"", 4)
+    wanted = f"{line}    {REFUSALS[31][1]}\n    {REASONS[name]}\n"
+    assert run([EXPLAIN], line.encode()) == said(wanted, b"", 4)
 
 
 def test_terminal() -> None:
@@ -184,17 +203,17 @@ def test_terminal() -> None:
 
 
 def modules_below(folder: str) -> set[str]:
-    """Returns the paths of the modules below a folder, and of what marks their package as typed."""
+    """Returns the paths of the modules below a folder, and of what marks their package as typed and what it reads."""
     found = (os.path.join(at, it) for at, _, names in os.walk(folder) for it in names)
-    return {os.path.relpath(it, folder) for it in found if it.endswith((".py", ".typed"))}
+    return {os.path.relpath(it, folder) for it in found if it.endswith((".py", ".typed", ".json"))}
 
 
 @pytest.fixture(scope="module")
 def prefix(tested: str, tmp_path_factory: pytest.TempPathFactory) -> str:
-    """The program and the package where ./install puts them."""
+    """The program and the package where bin/install puts them."""
     made = str(tmp_path_factory.mktemp("prefix"))
     for mode, place, to in listed():
-        if place.startswith("python/") or place in ("dnorm", "dnorm-explain", "dnorm-files"):
+        if place.startswith("python/") or place in ("bin/dnorm", "bin/dnorm-explain", "bin/dnorm-files"):
             make({f"{made}/{to}": bytes_of(source_of(place, tested))}, mode)
     return made
 
@@ -233,8 +252,11 @@ def test_wrong_words(explained: Callable[..., Answer], words: str, line: str) ->
 def test_right_words(explained: Callable[..., Answer]) -> None:
     """dnorm-explain runs dnorm, explains what it refuses, and has its status."""
     assert explained("check t.gr") == said(b"accepted sp\nforms none\n")
-    wanted = said(b"", b"u.gr:1: 1 BadLine\n    line 1: x\n", 2)
-    assert explained("canon u.gr") == wanted
-    wanted = said(b"", b"s.ss: 35 NotInGraph 7\n    line 3 names it: s 7\n", 2)
-    assert explained("check t.gr --with s.ss") == wanted
-    assert explained("compare t.gr below") == said(b"", b"below: 31 Read\n    Is a directory\n", 4)
+    lines = [
+        f"u.gr:1: 1 BadLine\n    {REFUSALS[1][1]}\n    line 1: x\n            ^\n    Lines begin with p, n, a, s, q or"
+    ]
+    assert explained("canon u.gr") == said(b"", f"{lines[0]} v, and comments with c\n", 2)
+    wanted = f"s.ss: 35 NotInGraph 7\n    {REFUSALS[35][1]}\n    line 3 names it: s 7\n"
+    assert explained("check t.gr --with s.ss") == said(b"", wanted, 2)
+    wanted = f"below: 31 Read\n    {REFUSALS[31][1]}\n    Is a directory\n"
+    assert explained("compare t.gr below") == said(b"", wanted, 4)

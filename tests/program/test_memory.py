@@ -17,7 +17,7 @@ from needs import leave_out
 from preload import Preloaded, preloaded
 from shared import ROOT, Answer, Words, run, said, write
 
-pytestmark = pytest.mark.whole
+pytestmark = pytest.mark.slow
 # The library: it refuses the allocation with the number REFUSED.
 REFUSING = """
 #include <stdlib.h>

@@ -8,11 +8,11 @@ import pytest
 from needs import need, pass_over
 from shared import ROOT, run, said
 
-pytestmark = pytest.mark.whole
+pytestmark = pytest.mark.slow
 # One with nothing but what every x86-64 processor has, and two processors that lack x86-64-v2.
 MODELS = ["qemu64,-sse3,-cx16", "Opteron_G1", "Conroe"]
 ARCS, NODES = 20_000, 6_000
-ARCHIVE = f"{ROOT}/c/out/lib/libdnorm.a"
+ARCHIVE = f"{ROOT}/build/prefix/lib/libdnorm.a"
 
 
 def text(kind: str) -> bytes:
@@ -30,15 +30,15 @@ def text(kind: str) -> bytes:
 
 @pytest.fixture(scope="module", params=["program", "library"])
 def built(request: pytest.FixtureRequest, tested: str, tmp_path_factory: pytest.TempPathFactory) -> str:
-    """The program, or one of tests/library/library.cc, which prints canonical texts by the library."""
+    """The program, or one of c/tests/library.cc, which prints canonical texts by the library."""
     need("qemu-x86_64")
     if request.param == "program":
         return tested
     need("c++")
     if not os.path.exists(ARCHIVE):
-        pass_over(f"{ARCHIVE} (tools/c-library makes it)")
+        pass_over(ARCHIVE)
     made = f"{tmp_path_factory.mktemp('processors')}/library"
-    words = ["c++", "-std=c++17", "-o", made, f"-I{ROOT}/c/out/include", f"{ROOT}/tests/library/library.cc", ARCHIVE]
+    words = ["c++", "-std=c++17", "-o", made, f"-I{ROOT}/build/prefix/include", f"{ROOT}/c/tests/library.cc", ARCHIVE]
     assert run(words) == said()
     return made
 

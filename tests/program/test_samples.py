@@ -13,7 +13,7 @@ from needs import leave_out, need
 from shared import Quick, bytes_of, python_with, run, said, write
 from test_answers_kept import canonical, solved
 
-pytestmark = pytest.mark.whole
+pytestmark = pytest.mark.slow
 SAMPLES = {
     "min": b"""c This is a simple example file to demonstrate the DIMACS
 c input file format for minimum cost flow problems. The solution

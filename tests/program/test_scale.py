@@ -4,6 +4,7 @@ to more than the text, and into one range up to more ranges than lines."""
 
 import os
 import random
+import re
 import shlex
 import shutil
 import signal
@@ -13,13 +14,13 @@ import time
 from typing import Any
 
 import pytest
-from needs import pass_over, seeds
+from needs import leave_out, need, pass_over, seeds
 from reading import MOST
-from shared import IN_A_WAIT, LIMIT, ROOT, Answer, pipe, run, said, text_of, write
+from shared import IN_A_WAIT, LIMIT, ROOT, Answer, bytes_of, pipe, run, said, text_of, write
 from texts import lines_of, made, spelled, spoilt
 
-pytestmark = pytest.mark.whole
-SCRIPT = f"{ROOT}/canon-in-parts"
+pytestmark = pytest.mark.slow
+SCRIPT = f"{ROOT}/bin/canon-in-parts"
 HALF = MOST // 2 + 1
 
 NOISY = (
@@ -201,6 +202,56 @@ def test_streams(scale: Scale, stream: str) -> None:
     assert os.listdir(scale.temporary) == []
 
 
+@pytest.mark.parametrize("text", [SUPPLIES, b"p sp 0 0\n", b"p max 1 2\na 1 1 5\na 1 1 6\n"])
+def test_output(scale: Scale, text: bytes) -> None:
+    """-o writes all of the text into a file, which stays as it was if the text is refused or a signal ends the run."""
+    write("made.min", b"old", 0o640)
+    os.symlink("made.min", "link")
+    wanted = run([scale.program, "canon", "-"], text)
+    for name in ["link", "new.min", "-"]:
+        found = scale.run("--lines=3", "-o", name, "-", given=text)
+        assert found == Answer(wanted.out if name == "-" else b"", wanted.err, wanted.status)
+    texts = [bytes_of(it) if os.path.exists(it) else b"old" for it in ("made.min", "new.min")]
+    assert texts == [b"old" if wanted.status else wanted.out] * 2 and os.path.islink("link")
+    assert os.path.exists("new.min") is not bool(wanted.status) and os.stat("made.min").st_mode & 0o777 == 0o640
+    assert [it for it in os.listdir(".") if it.startswith(".")] == [], "files left"
+
+
+def test_no_output(scale: Scale) -> None:
+    write("kept", b"old")
+    waits = scale.stand_in("kill -TERM $PPID; exec sleep 30")
+    assert scale.run("--lines=3", "-o", "kept", "./-n.min", tested=waits) == said(b"", b"", 128 + signal.SIGTERM)
+    assert (bytes_of("kept"), [it for it in os.listdir(".") if it.startswith(".")]) == (b"old", [])
+    for name, line, status in [
+        ("no/x.min", b"no/x.min: 33 Write (No such file or directory)\n", 4),
+        ("/dev/full", b"/dev/full: 33 Write (No space left on device)\n", 4),
+        ("x.min.gz", b"canon-in-parts: -o x.min.gz: the text is not compressed\n", 3),
+    ]:
+        found = scale.run("-o", name, "./-n.min")
+        assert (found.out, found.err, found.status) == (b"", line, status), name
+
+
+@pytest.mark.parametrize("chunks", [1, 30, 300])
+def test_many_chunks(scale: Scale, monkeypatch: pytest.MonkeyPatch, chunks: int) -> None:
+    """Arcs in many chunks and ranges, with tails that are far apart and at the ends of ranges."""
+    chance = random.Random(chunks)
+    tails = [1, 2, MOST, *(10**it for it in range(19))]
+    arcs = "".join(f"a {chance.choice(tails)} {chance.choice(tails)} {at}\n" for at in range(300))
+    scale.parts(f"p sp {MOST} 300\n{arcs}".encode(), 300 // chunks, 0, 1)
+
+
+def test_growing_chunks(scale: Scale) -> None:
+    """Without --lines, chunks grow with the text, so that their number does not."""
+    code = "import sys; from dnorm.parts import chunks, line; chunks.LINES = 2; sys.exit(line.main())"
+    own = {**os.environ, "PYTHONPATH": f"{ROOT}/python/src", "PYTHONDONTWRITEBYTECODE": "1"}
+    write("log", "")
+    counting = scale.stand_in('echo + >> log; exec "$P" "$@"'.replace('"$P"', shlex.quote(scale.program)))
+    text = b"p sp 9 2000\n" + b"".join(b"a %d %d 1\n" % (at % 9 + 1, at % 7 + 1) for at in range(2000))
+    words = [sys.executable, "-c", code, "--parts", "1", *scale.words("-", tested=counting)[1:]]
+    assert run(words, text, env=own) == run([scale.program, "canon", "-"], text)
+    assert 100 < len(text_of("log").split()) < 500, "half as many chunks as of 2 lines"
+
+
 @pytest.mark.parametrize("words", BAD_WORDS)
 def test_wrong_words(scale: Scale, words: str) -> None:
     found = run(scale.words(*words.split()))
@@ -281,11 +332,12 @@ def is_running(process: str) -> bool:
 def test_clone(tested: str, folder: str, own: str, status: int) -> None:
     """canon-in-parts of a clone takes the `./dnorm` of it, and has its status where it cannot build the program."""
     shutil.copytree(f"{ROOT}/python", "clone/python", ignore=shutil.ignore_patterns("__pycache__"))
-    for it in [SCRIPT, f"{ROOT}/dnorm-files"]:
-        shutil.copy(it, "clone")
-    write("clone/dnorm", f"#!/bin/sh\nP={shlex.quote(tested)}\n{own}\n", 0o755)
+    os.mkdir("clone/bin")
+    for it in [SCRIPT, f"{ROOT}/bin/dnorm-files"]:
+        shutil.copy(it, "clone/bin")
+    write("clone/bin/dnorm", f"#!/bin/sh\nP={shlex.quote(tested)}\n{own}\n", 0o755)
     wanted = run([tested, "canon", "-"], SUPPLIES).out if not status else b""
-    assert run(["clone/canon-in-parts", "--lines", "2", "-"], SUPPLIES) == said(wanted, b"", status)
+    assert run(["clone/bin/canon-in-parts", "--lines", "2", "-"], SUPPLIES) == said(wanted, b"", status)
 
 
 @pytest.mark.parametrize("count", [1, 3])
@@ -305,3 +357,49 @@ def test_old_python(scale: Scale, name: str) -> None:
         pass_over(name)
     words = [name, f"{ROOT}/python/src/__main__.py", "canon-in-parts", *scale.words("-")[1:]]
     assert run(words, SUPPLIES) == said(b"", b"canon-in-parts: it needs Python 3.9 or later\n", 4)
+
+
+# A host of GNU parallel in place of ssh: a folder, which is home there, and a network of its own.
+HOST = """#!/bin/bash
+while [[ $1 == -* ]]; do
+    [[ $1 == -[lopFSi] ]] && shift
+    shift
+done
+host=$1
+shift
+[[ $1 != -- ]] || shift
+echo "$host" >> "$HOSTS/log"
+cd "$HOSTS/$host" && HOME=$PWD exec unshare --map-root-user --net bash -c "$*"
+"""
+
+
+def test_many_machines(scale: Scale, folder: str) -> None:
+    """The recipe of the page, copied, on two hosts: whole files, a log of all texts, and no text after a failure."""
+    for it in ["parallel", "rsync", "unshare"]:
+        need(it)
+    if run(["unshare", "--map-root-user", "--net", "true"]).status:
+        leave_out("user namespaces")
+    (recipe,) = re.findall(r"^parallel .*", text_of(f"{ROOT}/docs/FILES.md"), re.M)
+    for it in ["bin", "hosts/one", "hosts/two", "citation", "texts"]:
+        os.makedirs(it)
+    write("bin/ssh", HOST, 0o755)
+    write("citation/will-cite", "")
+    for name, target in [("canon-in-parts", SCRIPT), ("dnorm", scale.program)]:
+        os.symlink(target, f"bin/{name}")
+    texts = {f"texts/t{at}.gr": f"p sp {at + 9} 1\na {at + 1} {at + 2} 3\n" for at in range(6)}
+    for name, text in texts.items():
+        write(name, text)
+    own = {**os.environ, "PATH": f"{folder}/bin:{os.environ['PATH']}", "HOSTS": f"{folder}/hosts", "HOME": folder}
+    own |= {"PARALLEL_HOME": f"{folder}/citation", "PARALLEL_SSH": f"{folder}/bin/ssh"}
+    command = ["bash", "-c", recipe.replace("HOST,:", "1/one,1/two")]
+    found = run(command, cwd="texts", env=own)
+    assert (found.status, os.listdir("hosts/one"), os.listdir("hosts/two")) == (0, [], []), found.err
+    for name, text in texts.items():
+        assert bytes_of(f"texts/canon/{name[6:]}") == run([scale.program, "canon", "-"], text.encode()).out
+    log = [it.split("\t") for it in text_of("texts/canon.log").splitlines()[1:]]
+    assert ({it[1] for it in log}, {it[6] for it in log}, len(log)) == ({"one", "two"}, {"0"}, 6)
+    shutil.rmtree("texts/canon")
+    write("texts/t0.gr", "x\n")
+    found = run([*command[:2], recipe.replace("HOST,:", "1/one")], cwd="texts", env=own)
+    assert (b"t0.gr:1: 1 BadLine" in found.err, found.status != 0) == (True, True), found.err
+    assert not os.path.exists("texts/canon/t0.gr") and len(text_of("texts/canon.log").splitlines()) < 7

@@ -14,7 +14,7 @@ from shared import ROOT, Answer, run, said, text_of, write
 
 from dnorm.commands.line import TASKS
 
-FILES, PARTS = f"{ROOT}/dnorm-files", f"{ROOT}/canon-in-parts"
+FILES, PARTS = f"{ROOT}/bin/dnorm-files", f"{ROOT}/bin/canon-in-parts"
 PAGES = [f"man1/{it}.1" for it in ["dnorm", "dnorm-files", "dnorm-explain", "canon-in-parts"]]
 PAGES += [f"man3/{it}.3" for it in ["dnorm.h", "dnorm_tools.h"]]
 WIDTH = 80
@@ -75,7 +75,9 @@ def test_page(help_of: Callable[[str], str], made: str, command: str) -> None:
 
 def test_pages_of_package(made: str) -> None:
     """The pages have all options, and no others."""
-    told = run([FILES, "--help"]).out.decode() + "".join(run([FILES, it, "--help"]).out.decode() for it in TASKS)
+    told = run([FILES, "--help"]).out.decode() + "".join(
+        run([FILES, it, "--help"]).out.decode() for it in (*TASKS, "parts")
+    )
     for page, text in zip([PAGES[1], PAGES[3]], [told, run([PARTS, "--help"]).out.decode()]):
         paged = text_of(f"{made}/share/man/{page}").replace(r"\-", "-")
         found = re.findall(r"^\.TP\n(?:\\fB-\w\\fR, )?\\fB(--[\w-]+)", paged, re.M)
@@ -97,24 +99,27 @@ def test_groff(help_of: Callable[[str], str], made: str, page: str) -> None:
 
 
 # A row of a new rule, before this one, and the files in which the rule is then written by hand.
-ROW, NEXT = "{:2}   65  MadeUp           DNORM_MADE_UP             A rule is made up.\n", "30    -  Memory"
+ROW = (
+    '  {{"number": {}, "rank": 65, "name": "MadeUp", "constant": "DNORM_MADE_UP", "sentence": "A rule is made up."}},\n'
+)
+NEXT = '  {"number": 30,'
 BY_HAND = {
     *("crates/dn_line/src/code.rt", "crates/dn_line/specs or crates/dn_instance/specs", "docs/FORMAT.md"),
     *("crates/dn_line/src or crates/dn_instance/src", "crates/dn_laws/src/instances/examples.rt", "examples/refused"),
-    *("crates/dn_tests/src/commands.rt", "share/conformance/cases.json", "bench/baselines/btree.rs"),
+    *("crates/dn_tests/src/commands.rt", "suite/cases.json", "bench/baselines/btree.rs"),
 }
 
 
-@pytest.mark.whole
+@pytest.mark.slow
 def test_rule(folder: str) -> None:
     """What tools/lists names of a new rule, once it has written all lists; and that it refuses a gap in the numbers."""
     shutil.copytree(ROOT, "copy", ignore=shutil.ignore_patterns(".git", "out", "released", "__pycache__"))
-    before, _, after = text_of("copy/share/refusals.txt").partition(NEXT)
+    before, _, after = text_of("copy/python/src/dnorm/refusals.json").partition(NEXT)
     number = faults()[-1].number + 1
-    write("copy/share/refusals.txt", f"{before}{ROW.format(number + 1)}{NEXT}{after}")
-    gap = f"share/refusals.txt: {number} is missing, the number before {number + 1} MadeUp\n"
+    write("copy/python/src/dnorm/refusals.json", f"{before}{ROW.format(number + 1)}{NEXT}{after}")
+    gap = f"python/src/dnorm/refusals.json: {number} is missing, the number before {number + 1} MadeUp\n"
     assert run(["copy/tools/lists", "--write"]) == said(gap, status=1)
-    write("copy/share/refusals.txt", f"{before}{ROW.format(number)}{NEXT}{after}")
+    write("copy/python/src/dnorm/refusals.json", f"{before}{ROW.format(number)}{NEXT}{after}")
     found = run(["copy/tools/lists", "--write"])
     assert (found.err, found.status) == (b"", 1)
     assert {it.partition(":")[0] for it in found.out.decode().splitlines()} == BY_HAND

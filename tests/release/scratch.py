@@ -9,30 +9,31 @@ from typing import NamedTuple
 from needs import leave_out
 from shared import OF_GIT, ROOT, Answer, bytes_of, links_listed, listed, run, text_of, write
 
-OUT = "crates/dnorm/out"
+OUT = "build"
 # What released/ has, besides its page.
-RELEASED = ["SHA256SUMS", "aarch64/dnorm.gz", "buildinfo", "c/dnorm.h", "c/libdnorm.c", "dnorm.html", "dnorm.wasm.gz"]
-RELEASED += [f"x86_64/{it}" for it in ["dnorm", "libdnorm.a.gz", "libdnorm.so.3.gz"]]
-# What tools/release runs on the program for aarch64.
+RELEASED = ["SHA256SUMS", "buildinfo", "c/dnorm.h", "c/libdnorm.c", "dnorm.html", "dnorm.wasm.gz"]
+RELEASED += [f"{one}/{it}" for one in ["aarch64", "x86_64"] for it in ["dnorm", "libdnorm.a", "libdnorm.so.3"]]
+# What packaging/release runs on the program for aarch64.
 FOR_AARCH64 = "tests/program/test_aarch64.py"
 # What it runs on the program of the C file, and what compiles that for Windows.
-FOR_C_FILE, MINGW = "tests/library/test_c_program.py", "x86_64-w64-mingw32-gcc"
+FOR_C_FILE, MINGW = "c/tests/test_c_program.py", "x86_64-w64-mingw32-gcc"
 NO_MINGW = f"release: Windows is left out: there is no {MINGW} on the path\n".encode()
 # A declaration of dnorm.h: the type, the name and the arguments.
 DECLARED = re.compile(r"^(\w+) (dnorm_\w+)(\([^;]*\));$", re.M)
-# Scripts that take the places of others in a scratch repository: the first one says whether the files are there, and
-# the second one whether it is called for the program among them.
-SCRIPTS = {
-    "tools/build": "",
-    "tools/c-library": "",
-    "tools/aarch64": f"[ -e {OUT}/aarch64/dnorm ]",
-    "tools/wasm": "",
-    "tools/c-file": "[ -e c/out/libdnorm.c ]",
-    "tests/run": f'[ "$CI" = true ] && {{ [ "$*" = "$PWD/{OUT}/aarch64/dnorm -- {FOR_AARCH64}" ] ||'
-    f' [ "${{1##*/}} $2 $3" = "c-program -- {FOR_C_FILE}" ]; }}',
-}
+# What takes the place of the Makefile in a scratch repository: it says whether what is made is there, and whether the
+# tests are called for the program among it.
+MAKES = f"""\
+program static library wasm page:
+aarch64: {OUT}/aarch64/dnorm
+c-file: {OUT}/libdnorm.c
+{OUT}/aarch64/dnorm {OUT}/libdnorm.c:
+\t@exit 1
+test:
+\t@test "$$CI" = true
+\t@case '$(TESTS)' in */{OUT}/aarch64/dnorm\\ {FOR_AARCH64} | *c-program\\ {FOR_C_FILE}) ;; *) exit 1 ;; esac
+"""
 # What a scratch repository does not have of this one.
-WITHOUT = shutil.ignore_patterns(".git", "out", "dist", "released", "__pycache__", ".*_cache")
+WITHOUT = shutil.ignore_patterns(".git", "out", "build", "dist", "released", "__pycache__", ".*_cache")
 # The author of the commits and their time; and that time as tar prints it.
 WHO = {"NAME": "A B", "EMAIL": "a@example.org", "DATE": "2026-01-02T03:04:05+00:00"}
 TIME = 1767323045
@@ -60,17 +61,17 @@ ADDED = ["share/doc/dnorm/changelog.Debian.gz", "share/doc/dnorm/copyright", "sh
 SOURCES = "python/src/dnorm/"
 MODULES = sorted(it.removeprefix("python/src/") for _, it, _ in listed() if it.startswith(SOURCES))
 # The conformance suite, which the wheels have as a module.
-SUITE = {"dnorm/cases.json": "share/conformance/cases.json", "dnorm/conformance.py": "share/conformance/run.py"}
+SUITE = {"dnorm/cases.json": "suite/cases.json", "dnorm/conformance.py": "suite/run.py"}
 
 
 def is_of_python(path: str) -> bool:
-    """Whether the package of the Python package has a file that ./install puts at this path."""
+    """Whether the package of the Python package has a file that bin/install puts at this path."""
     is_of_command = any(it in os.path.basename(path) for it in COMMANDS)
     return is_of_command and not path.startswith("share/doc/") or path.startswith(OF_PYTHON)
 
 
 def in_package(path: str) -> str:
-    """Returns where a package has a file that ./install puts at this path."""
+    """Returns where a package has a file that bin/install puts at this path."""
     for own, other in {
         "zsh/site-functions": "zsh/vendor-completions",
         "CHANGELOG.md": "changelog.gz",
@@ -96,7 +97,7 @@ def all_below(folder: str) -> dict[str, int]:
 
 
 def all_listed() -> list[str]:
-    """Returns the paths of what ./install installs."""
+    """Returns the paths of what bin/install installs."""
     return [*(it for _, _, it in listed()), *links_listed()]
 
 
@@ -145,37 +146,34 @@ class Place:
         else:
             shutil.copytree(ROOT, folder, ignore=WITHOUT)
             self.git("init", "-q")
-            for name, body in SCRIPTS.items():
-                write(f"{folder}/{name}", f"#!/bin/sh\n{body}\n")
+            write(f"{folder}/Makefile", MAKES)
         # What is built here, which git does not have.
-        for it in ["c/out/include", "c/out/lib", f"{OUT}/aarch64"]:
-            if os.path.exists(f"{ROOT}/{it}"):
-                shutil.copytree(f"{ROOT}/{it}", f"{folder}/{it}", symlinks=True)
-        for it in [f"{OUT}/rlib/dnorm.o", "crates/dn_c/out/library/dn_c.a"]:
-            os.makedirs(os.path.dirname(f"{folder}/{it}"))
-            if os.path.exists(f"{ROOT}/{it}"):
-                shutil.copy(f"{ROOT}/{it}", f"{folder}/{it}")
+        os.makedirs(f"{folder}/{OUT}/static")
+        if os.path.exists(f"{ROOT}/{OUT}/aarch64"):
+            shutil.copytree(f"{ROOT}/{OUT}/aarch64", f"{folder}/{OUT}/aarch64")
+        for it in ["dnorm.o", "dn_c.a", "libdnorm.a", "libdnorm.so.3"]:
+            if os.path.exists(f"{ROOT}/{OUT}/{it}"):
+                shutil.copy(f"{ROOT}/{OUT}/{it}", f"{folder}/{OUT}/{it}")
+        linked = f"{ROOT}/{OUT}/static/dnorm"
         shutil.copy(tested, f"{folder}/{OUT}/dnorm")
-        write(f"{folder}/{OUT}/built", run([f"{folder}/tools/source-sum", "--list", "program"]).out)
-        write(f"{folder}/c/out/built", "")
+        shutil.copy(linked if os.path.exists(linked) else tested, f"{folder}/{OUT}/static/dnorm")
         self.put_module()
 
     def put_module(self) -> None:
-        """Puts the module and the page where tools/wasm makes them, and into released/: what it has made here, or what
-        is released."""
-        for it in ["web/out", "released"]:
-            os.makedirs(f"{self.folder}/{it}", exist_ok=True)
+        """Puts the module and the page where make makes them, and into released/: what it has made here, or what is
+        released."""
+        os.makedirs(f"{self.folder}/released", exist_ok=True)
         for it in ["dnorm.wasm.gz", "dnorm.html"]:
-            found = [at for at in [f"{ROOT}/web/out/{it}", f"{ROOT}/released/{it}"] if os.path.exists(at)]
-            for to in ["web/out", "released"]:
+            found = [at for at in [f"{ROOT}/{OUT}/{it}", f"{ROOT}/released/{it}"] if os.path.exists(at)]
+            for to in [OUT, "released"]:
                 write(f"{self.folder}/{to}/{it}", bytes_of(found[0]) if found else "")
-        for it in ["dnorm.wasm", "dn_c.a", "said"]:
-            write(f"{self.folder}/web/out/{it}", f"{it}\n")
+        for it in ["dnorm.wasm", "wasm.a", "wasm.said"]:
+            write(f"{self.folder}/{OUT}/{it}", f"{it}\n")
         # A C file whose functions do nothing is compiled in no time.
         declared = DECLARED.findall(text_of(f"{ROOT}/c/dnorm.h"))
         bodies = {it: f"static {it} none; return none;" if it != "void" else "" for it, _, _ in declared}
         functions = "".join(f"{it} ({name}){words} {{ {bodies[it]} }}\n" for it, name, words in declared)
-        write(f"{self.folder}/c/out/libdnorm.c", f'#include "dnorm.h"\n{functions}')
+        write(f"{self.folder}/{OUT}/libdnorm.c", f'#include "dnorm.h"\n{functions}')
 
     def git(self, *words: str) -> None:
         who = {f"GIT_{one}_{it}": value for one in ["AUTHOR", "COMMITTER"] for it, value in WHO.items()}
@@ -191,7 +189,7 @@ class Place:
         self.has_commit = True
 
     def release(self, *words: str) -> Answer:
-        return run([f"{self.folder}/tools/release", *words], cwd="/", limit=MOST)
+        return run([f"{self.folder}/packaging/release", *words], cwd="/", limit=MOST)
 
 
 class Made:
@@ -226,8 +224,6 @@ class Made:
         line = found.err.decode(errors="replace").partition("\n")[0]
         if found.status and line.startswith("release: there is no"):
             leave_out(tool_of(line))
-        if found.status and line.startswith("release: crates/dnorm/out has no object"):
-            leave_out("the object of the built program (tools/build makes it)")
         if line.startswith("release: aarch64 is left out: "):
             self.lacks_aarch64 = line.removeprefix("release: aarch64 is left out: ")
             self.ports.pop()
@@ -239,5 +235,5 @@ class Made:
 
 
 def tool_of(line: str) -> str:
-    """Returns the tool that a line of tools/release says is missing."""
+    """Returns the tool that a line of packaging/release says is missing."""
     return line.removeprefix("release: ").removeprefix("there is no ").removesuffix(" on the path")

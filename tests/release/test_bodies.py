@@ -1,7 +1,6 @@
 """tools/wrong-bodies on a small crate, with edits that are to be refused and others that are to fail: what it tells of
-each, that it keeps what was refused and takes no damaged result, what it says of wrong arguments, that it waits for
-`rt ci` beside it, and that it leaves nothing behind if a signal ends it. And tools/prove, which proves functions of
-this crate."""
+each, that it keeps what was refused and takes no damaged result, what it says of wrong arguments, and that it leaves
+nothing behind if a signal ends it. And tools/prover.py, which proves functions of this crate."""
 
 import contextlib
 import glob
@@ -15,12 +14,12 @@ from collections.abc import Iterator
 
 import pytest
 from needs import need
-from shared import LIMIT, ROOT, Answer, bytes_of, make, pipe, text_of, write
+from shared import LIMIT, ROOT, Answer, bytes_of, make, said, text_of, write
 
 # How long a run of the script may take, in seconds.
 MOST = 600
 
-pytestmark = pytest.mark.whole
+pytestmark = [pytest.mark.slow, pytest.mark.proof]
 CRATE = {
     "crates.txt": "# A crate.\nsmall:\n",
     "crates/small/src/lib.rt": """// Numbers after others.
@@ -97,9 +96,8 @@ class Tried:
         self.environment = {**os.environ, "XDG_CACHE_HOME": f"{top}/cache", "TMPDIR": self.left}
         for folder in [f"{top}/tools", self.folder, self.left]:
             os.makedirs(folder)
-        tools = ["edits.py", "kit.py", "prove", "prover.py", "tally.py", "wrong-bodies"]
-        for path in ["kit.txt", *(f"tools/{it}" for it in tools)]:
-            shutil.copy(f"{ROOT}/{path}", f"{top}/{path}")
+        for it in ["edits.py", "kit.py", "prover.py", "tally.py", "usage.py", "wrong-bodies"]:
+            shutil.copy(f"{ROOT}/tools/{it}", f"{top}/tools/{it}")
         make({f"{top}/{path}": text for path, text in CRATE.items()})
         self.words = [f"{top}/tools/wrong-bodies", "--checked"]
 
@@ -150,13 +148,15 @@ def test_proves(tried: Tried) -> None:
     """Proves one function and what it calls, one with a wrong body, and all; and asks for what is not there."""
 
     def proved(*words: str) -> Answer:
-        ran = subprocess.run([f"{tried.top}/tools/prove", *words], capture_output=True, timeout=MOST, check=False)
+        ran = subprocess.run(
+            [f"{tried.top}/tools/prover.py", "check", *words], capture_output=True, timeout=MOST, check=False
+        )
         return Answer(ran.stdout, ran.stderr, ran.returncode)
 
     def verdicts(ran: Answer) -> list[bytes]:
         return sorted(re.findall(rb"^fn small::(\w+: proved)$", ran.out + ran.err, re.M))
 
-    ran = proved("small", "second")
+    ran = proved("small", "--only", "second")
     assert (ran.status, verdicts(ran)) == (0, [b"next: proved", b"second: proved"]), "one function"
     ran = proved("small")
     functions = [b"counted: proved", b"next: proved", b"second: proved", b"third: proved"]
@@ -164,14 +164,14 @@ def test_proves(tried: Tried) -> None:
     source = f"{tried.top}/crates/small/src/lib.rt"
     text = text_of(source)
     write(source, text.replace("next(n) + 1", "next(n) + 2"))
-    ran = proved("small", "second")
+    ran = proved("small", "--only", "second")
     assert (ran.status == 0, verdicts(ran)) == (False, [b"next: proved"]), "a wrong body"
     write(source, text)
     write(f"{tried.top}/crates.txt", "base:\nsmall: base\n")
     ran = proved("small")
     assert (ran.status, ran.err.startswith(b"dnorm: base is not proved here")) == (1, True), "no library below"
     ran = proved("large")
-    assert (ran.status, ran.err.startswith(b"Proves functions of a crate")) == (1, True), "no such crate"
+    assert (ran.status, ran.err.startswith(b"prover.py: it takes a verb and a crate")) == (2, True), "no such crate"
     write(f"{tried.top}/crates.txt", CRATE["crates.txt"])
 
 
@@ -200,30 +200,13 @@ def test_ends(tried: Tried) -> None:
     assert left == [], "checks that go on"
 
 
-def test_waits(tried: Tried) -> None:
-    """Runs the script beside an `rt ci` that proves the crate below, but leaves no library of it."""
-    tried.edit("constant")
-    write(f"{tried.top}/crates.txt", "base:\nsmall: base\n")
-    words = [f"{tried.top}/tools/wrong-bodies", "--beside"]
-    with subprocess.Popen(
-        words, env=tried.environment, stdin=subprocess.PIPE, stdout=subprocess.PIPE, stderr=subprocess.PIPE
-    ) as process:
-        told = pipe(process.stdin)
-        for line in [b"== base\n", b"rt: base: its tests are proved\n", b"rt: base pro"]:
-            told.write(line)
-            told.flush()
-            with contextlib.suppress(subprocess.TimeoutExpired):
-                process.wait(1)
-            assert process.poll() is None, line
-        told.write(b"ved\n")
-        told.flush()
-        assert process.wait(LIMIT) == 1, "status"
-        assert pipe(process.stderr).read() == b"dnorm: there is no proved library of base\n", "what it says"
-
-
 @pytest.mark.parametrize(
-    "word, line", [("large", "dnorm: crates.txt has no crate large"), ("--all", "Tries the wrong bodies")]
+    "word, line, status",
+    [
+        ("large", "wrong-bodies: crates.txt has no crate large\n", 1),
+        ("--al", "wrong-bodies: unknown word --al: --help says what there is\n", 2),
+    ],
 )
-def test_wrong_words(tried: Tried, word: str, line: str) -> None:
+def test_wrong_words(tried: Tried, word: str, line: str, status: int) -> None:
     ran, _ = tried.run(word)
-    assert (ran.status, ran.out, ran.err.startswith(line.encode())) == (1, b"", True)
+    assert ran == said("", line, status)

@@ -1,15 +1,14 @@
-"""tools/release on the built program, and ./install: the archive's program in an empty root, its conformance suite, two
-releases of one commit in two folders, the packages' paths, fields and commands, the links of all pages, programs that
-are built with the library of the archive, of ./install and of the packages, what is installed and uninstalled, also
-after a failure, by busybox and without /proc, and when no release is made. All of this happens in scratch repositories,
-which have the files that a release is made of.
+"""packaging/release on the built program, and bin/install: the archive's program in an empty root, its conformance
+suite, two releases of one commit in two folders, the packages' paths, fields and commands, the links of all pages,
+programs that are built with the library of the archive, of bin/install and of the packages, what is installed and
+uninstalled, also after a failure, by busybox and without /proc, and when no release is made. All of this happens in
+scratch repositories, which have the files that a release is made of.
 
 Of what is made for aarch64, the paths, the fields and the processor of the files are tested, and nothing is proved or
-run: the scratch repositories have what tools/aarch64 has built, and scripts in the place of tools/aarch64 and
-tests/run. The tests run in one process, in this order, since they share the releases."""
+run: the scratch repositories have what make has built, and another Makefile. The tests run in one process, in this
+order, since they share the releases."""
 
 import glob
-import gzip
 import os
 import re
 import shutil
@@ -22,12 +21,12 @@ import pytest
 from builds import by_cmake
 from known import CANONICAL, ROADS, ROADS_CANON, rows
 from needs import leave_out, need, pass_over
-from scratch import ADDED, DIST, FIRST, FOR_AARCH64, LINKS, MACHINES, MODULES, OF_LIBRARY, OUT, RELEASED, SCRIPTS
+from scratch import ADDED, DIST, FIRST, FOR_AARCH64, LINKS, MACHINES, MAKES, MODULES, OF_LIBRARY, OUT, RELEASED
 from scratch import SUITE, TIME, WHO, Made, Place, Port
 from scratch import all_below, all_listed, files_of, in_package, is_of_python, make_traps, tool_of
 from shared import ROOT, Answer, bytes_of, links_listed, listed, python_with, run, said, text_of, write
 
-pytestmark = [pytest.mark.whole, pytest.mark.xdist_group("release")]
+pytestmark = [pytest.mark.slow, pytest.mark.proof, pytest.mark.xdist_group("release")]
 # What the package for Python has besides modules and the suite.
 SHOWN = {f"dnorm/{it}" for it in ["FILES.md", "look.js", "report.html", "report.js"]}
 MAP = text_of(f"{ROOT}/c/dnorm.map")
@@ -36,8 +35,8 @@ MAP = text_of(f"{ROOT}/c/dnorm.map")
 @pytest.fixture(scope="module")
 def scratch(tested: str, tmp_path_factory: pytest.TempPathFactory) -> Made:
     need("git")
-    if not os.path.exists(f"{ROOT}/c/out/lib/libdnorm.a"):
-        leave_out("the library (tools/c-library builds it)")
+    if not os.path.exists(f"{ROOT}/{OUT}/libdnorm.a"):
+        leave_out("the library that make builds")
     return Made(tested, f"{tmp_path_factory.mktemp('release')}/it")
 
 
@@ -53,7 +52,7 @@ def test_aarch64(made: Made) -> None:
     if made.lacks_aarch64.startswith("there is no "):
         leave_out(tool_of(made.lacks_aarch64))
     if made.lacks_aarch64.startswith(f"{OUT}/aarch64 is not up to date"):
-        pass_over(f"{OUT}/aarch64 (tools/aarch64 builds it)")
+        pass_over(f"{OUT}/aarch64 (make aarch64 builds it)")
     assert not made.lacks_aarch64
 
 
@@ -74,17 +73,18 @@ def test_refusals(made: Made) -> None:
         write(f"{one.folder}/{name}", kept)
     os.remove(f"{one.folder}/more")
     for words in [["x"], ["--trial"], ["--trial", ""], ["--trial", "x", "y"]]:
-        assert one.release(*words) == said("", "usage: tools/release [--trial FOLDER]\n", 3), f"{words}"
+        wants = "release: it takes no words but --trial FOLDER: --help says more\n"
+        assert one.release(*words) == said("", wants, 2), f"{words}"
     if len(made.ports) > 1:
         os.rename(f"{one.folder}/{OUT}/aarch64", f"{one.folder}/{OUT}/away")
-        wants = "release: the program for aarch64 could not be built\n"
-        assert one.release() == said("", wants, 1), "nothing for aarch64"
+        line = b"release: the program for aarch64 could not be built\n"
+        assert one.release().err.endswith(line), "nothing for aarch64"
         os.rename(f"{one.folder}/{OUT}/away", f"{one.folder}/{OUT}/aarch64")
-        write(f"{one.folder}/tests/run", "#!/bin/sh\necho '0 passed, 1 failed'\nexit 1\n")
+        write(f"{one.folder}/Makefile", MAKES.replace("test:\n", "test:\n\t@exit 1\n"))
         one.commit(version, "0.9.0")
-        wants = f"0 passed, 1 failed\nrelease: the program for aarch64 does not pass {FOR_AARCH64}\n"
-        assert one.release() == said("", wants, 1), "a test for aarch64 that fails"
-        write(f"{one.folder}/tests/run", f"#!/bin/sh\n{SCRIPTS['tests/run']}\n")
+        line = f"release: the program for aarch64 does not pass {FOR_AARCH64}\n".encode()
+        assert one.release().err.endswith(line), "a test for aarch64 that fails"
+        write(f"{one.folder}/Makefile", MAKES)
         one.commit(version, "0.9.0")
     assert not os.path.exists(one.dist), "nothing is made"
 
@@ -97,12 +97,11 @@ def test_versions(made: Made) -> None:
     one.commit("9.0.10", "9.0.1-dev")
     one.commit("9.0.1", "0.9.0", is_next=True)
     first = run(["git", "rev-parse", "--short", "HEAD"], cwd=one.folder).out.decode().strip()
-    goes_on = "release: crates/dnorm/out has no object that gives the built program: tools/build makes it\n"
-    assert one.release() == said("", goes_on, 1), "a new version"
+    assert b"aarch64" in one.release().err, "a new version"
     os.makedirs(f"{one.folder}/released", exist_ok=True)
     write(f"{one.folder}/released/new", "")
     one.commit("9.0.1", "0.9.0", is_next=True)
-    assert one.release() == said("", goes_on, 1), "released/ added to it"
+    assert b"aarch64" in one.release().err, "released/ added to it"
     one.commit("9.0.1", "0.9.0", "0.8.0", is_next=True)
     wants = f"release: commit {first} has the version 9.0.1, too, and other files: take another version\n"
     assert one.release() == said("", wants, 1), "a version given before"
@@ -128,21 +127,13 @@ def two(made: Made) -> Place:
 
 
 def test_c_file(made: Made, two: Place, folder: str) -> None:
-    """The archive of the C file builds by make and by CMake, and puts what it has below a prefix."""
-    need("make", "cmake", "gcc")
+    """The archive of the C file has what c/file/stage makes, of which c/tests/test_builds.py builds the library."""
     name = f"dnorm-{made.version}-c"
     with tarfile.open(f"{two.dist}/{name}.tar.gz") as tar:
         tar.extractall(folder)
-    headers = [f"include/{it}" for it in ["dnorm.h", "dnorm.hpp", "dnorm_codes.h", "dnorm_tools.h"]]
-    by_make = ["make", "-s", "-C", name, "CFLAGS=-O0", f"PREFIX={folder}/made", "install"]
-    steps = [f"cmake -S {name} -B build", "cmake --build build", "cmake --install build --prefix by-cmake"]
-    for words in [by_make, *map(str.split, steps)]:
-        assert run(words).status == 0, words
-    installed = ["bin/dnorm", *headers, "lib/libdnorm.a"]
-    for it, wanted in {"made": [*installed, "lib/pkgconfig/dnorm.pc"], "by-cmake": installed}.items():
-        assert sorted(files_of(all_below(it))) == sorted(wanted)
-        assert run([f"{it}/bin/dnorm", "--version"]).out.startswith(f"dnorm {made.version}\n".encode())
-    assert f"Version: {made.version}\n" in text_of("made/lib/pkgconfig/dnorm.pc")
+    assert run([f"{two.folder}/c/file/stage", "staged", f"{two.folder}/{OUT}/libdnorm.c", made.version]) == said()
+    assert all_below(name) == all_below("staged")
+    assert all(bytes_of(f"{name}/{it}") == bytes_of(f"staged/{it}") for it in all_below("staged"))
 
 
 @pytest.fixture(params=range(len(MACHINES)), ids=[it.name for it in MACHINES])
@@ -187,13 +178,13 @@ def test_released(made: Made, two: Place) -> None:
     sums = run(["sha256sum", "--strict", "-c", "SHA256SUMS"], cwd=f"{two.folder}/released")
     assert (sums.err, sums.status) == (b"", 0), "SHA256SUMS of released/"
     with tarfile.open(f"{two.dist}/{made.ports[1].archive}") as tar:
-        file = tar.extractfile(f"{made.ports[1].name}/dnorm")
+        file = tar.extractfile(f"{made.ports[1].name}/bin/dnorm")
         program = file.read() if file else b""
-    assert gzip.decompress(found[0]["aarch64/dnorm.gz"]) == program, "the released program for aarch64"
+    assert found[0]["aarch64/dnorm"] == program, "the released program for aarch64"
     lines = found[0]["buildinfo"].decode().splitlines()
     wanted = [f"version: {made.version}", f"kit: {kit_line()}"]
-    for it in ["program", "library"]:
-        wanted.append(f"sources of the {it}: {run([f'{two.folder}/tools/source-sum', it]).out.decode().strip()}")
+    for it in ["crates", "c/free.c"]:
+        wanted.append(f"{it}: {run(['git', 'rev-parse', f'HEAD:{it}'], cwd=two.folder).out.decode().strip()}")
     for line in wanted:
         assert line in lines, f"released/buildinfo has: {line}"
     two.git("add", "-A")
@@ -217,10 +208,10 @@ def test_archive(made: Made, port: Port) -> None:
     assert {(it.uid, it.gid, it.uname, it.gname, int(it.mtime)) for it in members} == {(0, 0, "", "", TIME)}
     wanted = archived()
     found_links = {it: os.readlink(f"{port.tree}/{it}") for it in wanted if os.path.islink(f"{port.tree}/{it}")}
-    assert found_links == links_listed()
+    assert {at: to for at, to in found_links.items() if "/" in at} == links_listed()
     assert files_of(all_below(port.tree)) == wanted
     assert {it.mode for it in members if it.isdir()} == {0o755}, "its folders' modes"
-    for name in ["dnorm", "lib/libdnorm.a", "lib/libdnorm.so.3"]:
+    for name in ["bin/dnorm", "lib/libdnorm.a", "lib/libdnorm.so.3"]:
         linked = bytes_of(f"{port.tree}/{name}")
         for it in [made.folder, ROOT, os.path.dirname(os.path.dirname(os.path.realpath(shutil.which("rt") or "")))]:
             assert it.encode() not in linked, f"{it} is in {name}"
@@ -232,14 +223,16 @@ def test_archive(made: Made, port: Port) -> None:
 
 def archived() -> dict[str, int]:
     """Returns the files that the archive is to have, with their modes."""
-    wanted = {place: mode for mode, place, _ in listed()} | {"install": 0o755, "share/installed.txt": 0o644}
+    wanted = {place: mode for mode, place, _ in listed()} | {"packaging/installed.txt": 0o644}
+    commands = [*(os.path.basename(it) for it in wanted if it.startswith("bin/")), "install"]
+    wanted |= {"bin/install": 0o755, **dict.fromkeys(commands, 0o755)}
     return wanted | dict.fromkeys(links_listed(), 0o644)
 
 
 def test_runs_of_archive(made: Made, two: Place) -> None:
     """What the archive for this machine has runs, and leaves nothing behind."""
     uses_library(made, made.tree)
-    words = [f"{made.tree}/share/conformance/run.py", "--rule", "first", f"{made.tree}/dnorm"]
+    words = [f"{made.tree}/suite/run.py", "--rule", "first", f"{made.tree}/dnorm"]
     assert run(words) == said(FIRST)
     parts(made, f"{made.tree}/canon-in-parts")
     assert files_of(all_below(made.tree)) == archived()
@@ -257,7 +250,7 @@ def uses_library(made: Made, prefix: str, root: str = "") -> None:
     told = run(["pkg-config", "--cflags", "--libs", "dnorm"], env=own)
     assert (told.err, told.status) == (b"", 0), f"pkg-config below {prefix}"
     words = [
-        "c++", "-std=c++17", "-o", f"{made.folder}/uses", f"{ROOT}/tests/library/library.cc",
+        "c++", "-std=c++17", "-o", f"{made.folder}/uses", f"{ROOT}/c/tests/library.cc",
         *told.out.decode().split(),
     ]  # fmt: skip
     assert run(words) == said(), f"{words}"
@@ -311,7 +304,7 @@ def test_python_wheel(made: Made, port: Port) -> None:
     script, library = f"{made.stem}.data/scripts/dnorm", "dnorm/libdnorm.so.3"
     modules = {*MODULES, *SUITE, *SHOWN, library}
     assert {it for it in texts if not it.startswith(f"{made.stem}.dist-info/")} == {*modules, script}, "its files"
-    for name, place in {**SUITE, script: "dnorm", library: "lib/libdnorm.so.3"}.items():
+    for name, place in {**SUITE, script: "bin/dnorm", library: "lib/libdnorm.so.3"}.items():
         assert texts[name] == bytes_of(f"{port.tree}/{place}"), f"{name} is {place}"
     for it in [made.folder, ROOT]:
         assert not any(it.encode() in texts[name] for name in {*texts} - {script, library}), f"{it} is not in the wheel"
@@ -337,7 +330,8 @@ def test_python_source(made: Made, two: Place) -> None:
             assert one and other and one.read() == other.read()
     found = {it.removeprefix("src/") for it in members if it.startswith("src/dnorm/")}
     assert found == {*MODULES, *SUITE, *SHOWN}, "its package"
-    wanted = {"MANIFEST.in", "PKG-INFO", "README.md", "THIRD-PARTY", "c/dnorm.h", "c/libdnorm.c"}
+    wanted = {"LICENSE-APACHE", "LICENSE-MIT", "MANIFEST.in", "PKG-INFO", "README.md", "THIRD-PARTY"}
+    wanted |= {"c/dnorm.h", "c/libdnorm.c"}
     wanted |= {"pyproject.toml", "setup.cfg", "setup.py"}
     assert {it for it in members if not it.startswith("src/")} == wanted, "its other files"
     assert {it.mtime for it in members.values()} == {TIME}, "its times"
@@ -592,14 +586,14 @@ def parts(made: Made, script: str) -> None:
 
 
 def install(folder: str, *words: str, below: str = "", path: str = "") -> Answer:
-    """Runs ./install of this folder, with the umask of a single user, with DESTDIR if it is given, and with this path
+    """Runs bin/install of this folder, with the umask of a single user, with DESTDIR if it is given, and with this path
     of commands."""
     own = {**os.environ, "DESTDIR": below, "PATH": path or os.environ["PATH"]}
-    return run(["sh", "-c", 'umask 077; exec "$@"', "sh", f"{folder}/install", *words], cwd="/", env=own)
+    return run(["sh", "-c", 'umask 077; exec "$@"', "sh", f"{folder}/bin/install", *words], cwd="/", env=own)
 
 
 def test_fails(scratch: Made) -> None:
-    """A failed ./install leaves a list by which --uninstall works, and removes nothing else; and ./install
+    """A failed bin/install leaves a list by which --uninstall works, and removes nothing else; and bin/install
     without bash and without /proc."""
     prefix = f"{scratch.folder}/failing"
     for path in ["share/fish", "bin/dnorm-explain/x"]:
@@ -607,19 +601,21 @@ def test_fails(scratch: Made) -> None:
         write(f"{prefix}/{path}", "mine")
         before = all_below(prefix)
         found = install(scratch.one.folder, prefix)
-        assert found.status == 1 and len(all_below(prefix)) > len(before), f"./install fails: {found.err!r}"
+        assert found.status == 1 and len(all_below(prefix)) > len(before), f"bin/install fails: {found.err!r}"
         assert install(scratch.one.folder, "--uninstall", prefix) == said(), "--uninstall after a failure"
         assert all_below(prefix) == before, "what is left after a failure"
         shutil.rmtree(prefix)
     # To the script this is a shell other than bash.
-    found = run(["sh", "-c", 'unset BASH_VERSION; . "$0"', f"{scratch.one.folder}/install", prefix])
-    assert found == said("", "install: this script needs bash\n", 3), "./install without bash"
+    found = run(["sh", "-c", 'unset BASH_VERSION; . "$0"', f"{scratch.one.folder}/bin/install", prefix])
+    assert found == said("", "install: this script needs bash\n", 3), "bin/install without bash"
     hidden = ["unshare", "-m", "sh", "-c", 'mount -t tmpfs tmpfs /proc && "$@"', "sh"]
     if os.geteuid() or run([*hidden, "true"]).status:
         pass_over("the right to mount (root has it)")
-    found = run([*hidden, f"{scratch.one.folder}/install", prefix])
-    assert (found.err, found.status) == (b"", 0), "./install without /proc"
-    assert run([*hidden, f"{scratch.one.folder}/install", "--uninstall", prefix]) == said(), "--uninstall without /proc"
+    found = run([*hidden, f"{scratch.one.folder}/bin/install", prefix])
+    assert (found.err, found.status) == (b"", 0), "bin/install without /proc"
+    assert (
+        run([*hidden, f"{scratch.one.folder}/bin/install", "--uninstall", prefix]) == said()
+    ), "--uninstall without /proc"
     assert not os.path.exists(prefix), "nothing is left without /proc"
 
 
@@ -645,7 +641,7 @@ def by_busybox(made: Made) -> str:
 
 @pytest.mark.parametrize("what", ["archive", "repository", "archive, by busybox"])
 def test_installs(made: Made, two: Place, what: str) -> None:
-    """What ./install installs from the archive and from the repository, and uninstalls again."""
+    """What bin/install installs from the archive and from the repository, and uninstalls again."""
     folder, linked = (made.one.folder, made.tested) if what == "repository" else (made.tree, f"{made.tree}/dnorm")
     prefix, path = f"{made.folder}/a prefix", by_busybox(made) if "busybox" in what else os.environ["PATH"]
     os.makedirs(f"{prefix}/share/man")
@@ -657,7 +653,7 @@ def test_installs(made: Made, two: Place, what: str) -> None:
         assert sorted(told[:-4]) == sorted(f"{prefix}/{it}" for it in all_listed()), "files that are printed"
         assert told[-3] == f"export PATH={quoted}/bin:$PATH", "the path is printed"
         assert told[-1] == f"fpath=({quoted}/share/zsh/site-functions $fpath)", "fpath is printed"
-        assert (found.err, found.status) == (b"", 0), "./install"
+        assert (found.err, found.status) == (b"", 0), "bin/install"
     found = install(folder, prefix, path=f"{path}:{prefix}/bin")
     assert len(found.out.splitlines()) == len(all_listed()) + 2, "the path is not printed"
     below, wanted = all_below(prefix), {it: mode for mode, _, it in listed()} | dict.fromkeys(links_listed(), 0o644)
@@ -669,13 +665,13 @@ def test_installs(made: Made, two: Place, what: str) -> None:
         by_cmake(f"{made.folder}/by cmake", prefix)
         parts(made, f"{prefix}/bin/canon-in-parts")
         compiles(made, f"{prefix}/share/dnorm/python")
-    assert install(folder, "--uninstall", prefix, path=path) == said(), "./install --uninstall"
+    assert install(folder, "--uninstall", prefix, path=path) == said(), "bin/install --uninstall"
     assert all_below(prefix) == before, "what is left"
     shutil.rmtree(prefix)
 
 
 def test_stages(scratch: Made) -> None:
-    """Installing below DESTDIR and moving the result, a prefix that did not exist, and what ./install refuses."""
+    """Installing below DESTDIR and moving the result, a prefix that did not exist, and what bin/install refuses."""
     stage, prefix = f"{scratch.folder}/stage", f"{scratch.folder}/moved"
     os.mkdir(stage)
     found = install(scratch.one.folder, "/usr", below=stage)
@@ -691,5 +687,5 @@ def test_stages(scratch: Made) -> None:
     assert install(scratch.one.folder, "--uninstall", prefix) == said("", lost, 1), "--uninstall of nothing"
     for words in [[""], ["-x"], ["a", "b"], ["--uninstall", "a", "b"], ["--uninstall", "-x"], ["a", "--uninstall"]]:
         assert install(scratch.one.folder, *words) == said(
-            "", "usage: ./install [--uninstall] [PREFIX]\n", 3
+            "", "install: it takes [--uninstall] [PREFIX]: --help says more\n", 2
         ), f"{words}"

@@ -1,107 +1,94 @@
-"""What a clone does with released/: ./dnorm, tools/program, tools/c-library and ./install take the released files if
-they were made from the sources that are there, and say in one line what to do if a file was changed, a source was, or
-the kit is another one; tools/released finds every released file that is not what is made here. Further, ./check ends
-what it has started, and tests/run says what it leaves out.
+"""What a clone does with what make has built and with released/: which program ./dnorm runs, which library c/put takes,
+what is said where there is no kit, what tools/released compares, and what every script says of its words. Further,
+what ./check counts, and that it ends what it has started.
 
-All of this happens in scratch repositories with crates of one line, in which the tested program is the released one.
-What needs the kit and what it has made (by `./check`, or by tools/build and tools/c-library) is left out without
-these."""
+All of this happens in scratch repositories with crates of one line and objects that no kit has made. An `rt` that
+prints the version of a kit stands for one."""
 
 import contextlib
-import gzip
 import os
-import re
-import resource
 import shutil
 import signal
 import subprocess
 import sys
 import time
-from collections.abc import Callable, Iterator
-from typing import Any
+from collections.abc import Iterator
 
+import kit
 import pytest
 from known import ROADS, ROADS_CANON
-from needs import leave_out, need, pass_over
-from shared import LIMIT, ROOT, Answer, bytes_of, make, own_folder, run, said, text_of, write
+from needs import need, pass_over
+from shared import LIMIT, OF_GIT, ROOT, Answer, bytes_of, make, run, said, text_of, write
 
-pytestmark = pytest.mark.whole
+pytestmark = pytest.mark.slow
 # What a scratch repository has of this one.
-FILES = [
-    "dnorm", "install", "kit.txt", *(f"c/dnorm{it}" for it in [".h", "_codes.h", "_tools.h", ".hpp", ".pc", ".map"]),
-]  # fmt: skip
+FILES = ["bin/dnorm", "c/put", "tools/kit.py", "tools/prover.py", "tools/released", "tools/usage.py", "tools/usage.sh"]
+FILES += [f"c/dnorm{it}" for it in [".h", "_codes.h", "_tools.h", ".hpp", ".pc", ".map"]]
 FILES += ["c/free.c", "c/dnorm-config.cmake", "c/dnorm-config-version.cmake", "crates/dn_command/src/help.rt"]
-TOOLS = ["find-program.sh", "program", "source-sum", "kit.py", "prover.py", "build", "c-library"]
-FILES += [f"tools/{it}" for it in TOOLS]
-FILES += ["tools/link-program", "tools/released", "tools/hidden-object"]
-OUT, SOURCE = "crates/dnorm/out", "crates/dnorm/src/main.rt"
-LIBRARY = "crates/dn_c/out/library"
+FILES += ["Makefile"]
 LIBRARIES = ["libdnorm.a", "libdnorm.so.3"]
-# What the kit has made here.
-MADE = [f"{OUT}/rlib/dnorm.o", *(f"{LIBRARY}/{it}" for it in ["dn_c.a", *LIBRARIES])]
-INSTALLED = ["755 bin dnorm", "644 include include/dnorm.h", "644 lib lib/libdnorm.a"]
-# A path of commands without `rt`.
-WITHOUT_RT = "/usr/bin:/bin"
-# The commands that ./dnorm calls to find the released program.
-USED = "bash cut date dirname env find head mkdir mv readlink rm sed sha256sum sort touch xargs"
-KIT = text_of(f"{ROOT}/kit.txt").strip()
-NO_RT = f"dnorm: proving needs the kit '{KIT}', and there is no rt on the PATH: see docs/PROVED.md; released/ has the "
-NO_RT += "proved program 1.0\n"
-CHANGED = (
-    "dnorm: released/ has other bytes than SHA256SUMS says: git restores it, and tools/build builds the program anew\n"
-)
+SOURCES = ["crates", "crates.txt", "c/dnorm.map", "c/free.c"]
+# A path of commands without `rt`, and what a kit prints of itself.
+WITHOUT_RT, KIT = "/usr/bin:/bin", "rattle-kit-13x logic 0123456789abcdef"
+NO_KIT = "dnorm: proving and building needs a kit of Rattle (see docs/PROVED.md), and "
 
 
 class Clone:
-    """A scratch repository whose released/ fits its sources."""
+    """A scratch repository whose released/ was made from its sources, by a kit."""
 
     def __init__(self, folder: str, tested: str) -> None:
         self.folder, self.released = folder, f"{folder}/released"
         for it in FILES:
-            os.makedirs(os.path.dirname(f"{folder}/{it}"), exist_ok=True)
-            shutil.copy(f"{ROOT}/{it}", f"{folder}/{it}")
-        for name, text in {
-            **dict.fromkeys(["crates/dn_low/src/lib.rt", "crates/dn_c/src/lib.rt", SOURCE], "// a source\n"),
-            "crates.txt": "dn_low:\ndnorm: dn_low\ndn_c staticlib:\n",
-            "crates/dn_low/specs/State/Low.antt": "low : Nat\n",
-            "crates/dn_low/proofs/low/Proof.antt": "proof = low\n",
-            "share/installed.txt": "".join(f"{it}\n" for it in INSTALLED),
-            "docs/costs.txt": "",
-        }.items():
-            self.write(name, text)
-        self.write("tools/generate", "#!/bin/sh\n", 0o755)
-        os.makedirs(f"{self.released}/x86_64")
-        shutil.copy(tested, f"{self.released}/x86_64/dnorm")
-        for it in LIBRARIES:
-            self.pack(it, it.encode())
+            self.write(it, bytes_of(f"{ROOT}/{it}"), os.stat(f"{ROOT}/{it}").st_mode & 0o777)
+        for it in ["dn_num", "dnorm"]:
+            self.write(f"crates/{it}/src/lib.rt", "// a source\n")
+        self.write("crates.txt", "dn_num:\ndnorm: dn_num\n")
+        self.write("released/c/libdnorm.c", "int dnorm_begin(void) { return 7; }\n")
+        self.write(".gitignore", "build/\n")
+        for it in ["dnorm", *LIBRARIES]:
+            for place in ["build/static" if it == "dnorm" else "build", "released/x86_64"]:
+                self.write(f"{place}/{it}", bytes_of(tested) if it == "dnorm" else it, 0o755)
+        for it in ["dnorm.o", "dn_c.a"]:
+            self.write(f"build/{it}", it)
+        self.rt(f"echo {KIT}")
+        self.write("kit/WHAT", "")
+        run(["git", "init", "-q", folder])
+        self.commit()
         self.tell()
 
     def write(self, name: str, text: str | bytes, mode: int | None = None) -> None:
         make({f"{self.folder}/{name}": text}, mode)
 
-    def link(self, name: str, target: str) -> None:
-        os.makedirs(os.path.dirname(f"{self.folder}/{name}"), exist_ok=True)
-        os.symlink(target, f"{self.folder}/{name}")
+    def rt(self, does: str) -> None:
+        """Makes an `rt` that does this when it is asked for its version, and stands in front of a kit."""
+        names = f"[ $1 != doc ] || exec echo '{self.folder}/kit/START-HERE.md'"
+        self.write("front/rt", f"#!/bin/sh\n{names}\n{does}\n", 0o755)
 
-    def pack(self, name: str, library: bytes) -> None:
-        """Writes a library into released/."""
-        write(f"{self.released}/x86_64/{name}.gz", gzip.compress(library, mtime=0))
+    def git(self, *words: str) -> str:
+        return run(["git", "-C", self.folder, *words], env={**os.environ, **OF_GIT}).out.decode().strip()
 
-    def tell(self, more: str = "") -> None:
-        """Writes what released/ is made from, with more lines, and its sums."""
-        lines = ["version: 1.0", f"kit: {KIT}"]
-        for it in ["program", "library"]:
-            lines.append(f"sources of the {it}: {self.run('tools/source-sum', it).out.decode().strip()}")
-        self.write("released/buildinfo", "".join(f"{it}\n" for it in lines) + more)
+    def commit(self) -> None:
+        self.git("add", "-A")
+        self.git("commit", "-q", "-m", "a commit")
+
+    def tell(self) -> None:
+        """Writes what released/ is made from, and its sums."""
+        lines = ["version: 1.0", f"kit: {KIT}", *(f"{it}: {self.git('rev-parse', f'HEAD:{it}')}" for it in SOURCES)]
+        linker, libc = (
+            run(["gcc", f"-print-{it}"]).out.decode().strip() for it in ["prog-name=ld", "file-name=libc.a"]
+        )
+        for it in ["gcc", linker]:
+            lines.append(f"{os.path.basename(it)}: {run([it, '--version']).out.decode().splitlines()[0]}")
+        for it in [f"{self.folder}/build/dnorm.o", f"{self.folder}/build/dn_c.a", libc]:
+            lines.append(f"{run(['sha256sum', it]).out.decode().split()[0]}  {os.path.basename(it)}")
+        self.write("released/buildinfo", "".join(f"{it}\n" for it in lines))
         self.sum()
 
     def sum(self) -> None:
         """Writes the sums of the files of released/."""
-        found = [
-            os.path.relpath(f"{at}/{it}", self.released) for at, _, names in os.walk(self.released) for it in names
-        ]
-        sums = run(["sha256sum", *sorted({*found} - {"SHA256SUMS"})], cwd=self.released).out
-        self.write("released/SHA256SUMS", sums)
+        below = ((at, name) for at, _, names in os.walk(self.released) for name in names)
+        found = {os.path.relpath(f"{at}/{name}", self.released) for at, name in below} - {"SHA256SUMS"}
+        self.write("released/SHA256SUMS", run(["sha256sum", *sorted(found)], cwd=self.released).out)
 
     @contextlib.contextmanager
     def other(self, name: str, text: str | bytes | None = None) -> Iterator[None]:
@@ -118,415 +105,217 @@ class Clone:
 
 @pytest.fixture
 def clone(tested: str, folder: str) -> Clone:
+    need("git", "gcc")
     if shutil.which("rt", path=WITHOUT_RT) or os.uname().machine != "x86_64":
         pass_over(f"x86-64, and {WITHOUT_RT} without rt")
     return Clone(f"{folder}/a clone", tested)
 
 
-def runs(what: str, clone: Clone, path: str = WITHOUT_RT) -> None:
-    """Tests that ./dnorm runs the program."""
-    assert clone.run("dnorm", given=ROADS, path=path) == said(ROADS_CANON), f"./dnorm, {what}"
-
-
-def stops(what: str, clone: Clone, line: str, path: str = WITHOUT_RT) -> None:
-    """Tests that ./dnorm runs nothing, and says why."""
-    assert clone.run("dnorm", given=ROADS, path=path) == said("", line, 125), f"./dnorm, {what}"
-    out = f"{clone.folder}/{OUT}"
-    left = [name for name in os.listdir(out) if "built" in name] if os.path.isdir(out) else []
-    assert left == [], f"what is left, {what}"
-
-
-def runs_built(clone: Clone, sources: str | bytes) -> None:
-    """Tests that ./dnorm runs a program that was built from these sources."""
-    clone.write(f"{OUT}/dnorm", "#!/bin/sh\necho built\n", 0o755)
-    clone.write(f"{OUT}/built", sources)
-    assert clone.run("dnorm") == said("built\n"), "./dnorm, a built program"
-
-
-def test_takes(clone: Clone) -> None:
-    """When ./dnorm takes the released program."""
-    runs("the first time", clone)
-    with clone.other("tools/source-sum", "exit 1\n"):
-        runs("which does not sum again", clone)
-    named, own = said(f"{clone.released}/x86_64/dnorm\n"), {**os.environ, "PATH": WITHOUT_RT}
-    assert clone.run("tools/program") == named, "tools/program"
-    assert run(["tools/program"], cwd=clone.folder, env=own) == named, "tools/program from the clone"
-    clone.write(SOURCE, "// a source\n")
-    runs("a source with a later time", clone)
-    for name, other in [
-        (SOURCE, "// another\n"),
-        ("crates.txt", "dn_low:\ndnorm:  dn_low\ndn_c staticlib:\n"),
-        ("kit.txt", f"{KIT}x\n"),
-    ]:
-        with clone.other(name, other):
-            stops(f"another {name}", clone, NO_RT.replace(f"{KIT}'", f"{KIT}x'") if name == "kit.txt" else NO_RT)
-            wants = "dnorm: no program is built or released for these sources: tools/build proves and builds it\n"
-            assert clone.run("tools/program") == said("", wants, 125), f"tools/program, another {name}"
-        runs(f"{name} as it was", clone)
-    clone.write("crates/dn_more/src/lib.rt", "")
-    runs("a crate that the program does not stand on", clone)
-    for name in ["crates.txt", "kit.txt", "crates/dnorm/src", "crates/dnorm"]:
-        shutil.move(f"{clone.folder}/{name}", f"{clone.folder}/away")
-        assert clone.run("tools/program").status == 125, f"tools/program without {name}"
-        shutil.rmtree(f"{clone.folder}/{name}", ignore_errors=True)
-        shutil.move(f"{clone.folder}/away", f"{clone.folder}/{name}")
-        runs(f"{name} again", clone)
-    clone.write("crates/dnorm/src/more.rt", "")
-    stops("a source more", clone, NO_RT)
-    os.remove(f"{clone.folder}/crates/dnorm/src/more.rt")
-    runs("a source less, as before", clone)
-    runs_built(clone, clone.run("tools/source-sum", "--list", "program").out)
-    clone.write(SOURCE, "// a source\n")
-    runs("a built program that is older than a source", clone)
-    shutil.rmtree(f"{clone.folder}/{OUT}")
-    clone.write(OUT, "")
-    runs("where no mark can be written", clone)
-
-
-# Puts a file back.
-BACK = "mv ../kept {}"
-# What is changed in a scratch repository: commands of bash in its folder, after each of which the released program was
-# not made from the sources; and those that undo it.
-CHANGES = {
-    "an edited source": ("echo x >> {}", "sed -i '$ d' {}"),
-    "an edit that keeps the size and the time": ("cp -p {} ../kept; tr o 0 < ../kept > {}; touch -r ../kept {}", BACK),
-    "another file by cp -p": ("cp -p {} ../kept; touch -d @9 ../other; cp -p ../other {}", BACK),
-    "another file by mv": ("cp -p {} ../kept; touch -d @9 ../other; mv ../other {}", BACK),
-    "a removed file": ("mv {} ../kept", BACK),
-    "a new file": ("touch -d @9 $(dirname {})/more", "rm $(dirname {})/more"),
-    "a new folder": ("mkdir $(dirname {})/new; touch $(dirname {})/new/more", "rm -r $(dirname {})/new"),
-    "another name": ("mv {} {}.old", "mv {}.old {}"),
-    "a crate's new part": ("mkdir crates/dnorm/specs; touch crates/dnorm/specs/Lib.antt", "rm -r crates/dnorm/specs"),
-}
-DECIDING = ["dn_low/src/lib.rt", "dn_low/specs/State/Low.antt", "dn_low/proofs/low/Proof.antt", "dnorm/src/main.rt"]
-# A find that takes no list, as that of findutils before 4.9.
-OLD_FIND = '#!/bin/sh\ncase $* in *-files0-from*) exit 1 ;; esac\nexec /usr/bin/find "$@"\n'
-
-
-@pytest.mark.parametrize("what", CHANGES)
-def test_notices(clone: Clone, what: str) -> None:
-    """Which changes ./dnorm notices after a call that has checked all: those of each file that decides."""
-    change, back = CHANGES[what]
-    clone.write("bin/find", OLD_FIND, 0o755)
-    for name in DECIDING:
-        for path in [WITHOUT_RT, f"{clone.folder}/bin:{WITHOUT_RT}"]:
-            runs("before", clone, path)
-            for command, is_same in [(change, False), (back, True)]:
-                place = f"crates/{name}"
-                assert run(["bash", "-c", command.replace("{}", place)], cwd=clone.folder) == said(), command
-                (runs(f"{what} undone", clone, path) if is_same else stops(f"{what}: {place}", clone, NO_RT, path))
-
-
-@pytest.mark.parametrize("words", ["mv", "cp -r", "cp -a"])
-def test_moved(clone: Clone, words: str) -> None:
-    """A clone that is moved or copied, whose source then changes."""
-    runs("before", clone)
-    assert run([*words.split(), clone.folder, f"{clone.folder} at another place"]) == said()
-    clone.folder += " at another place"
-    runs(words, clone)
-    clone.write(SOURCE, "// another\n")
-    stops(f"another source after {words}", clone, NO_RT)
-
-
-def test_read_only(clone: Clone, tested: str) -> None:
-    """A clone of another user, which this one may not write: without a mark, and with that of the other user."""
-    if os.geteuid():
-        pass_over("root, who runs a clone as another user")
-    own: dict[str, Any] = {"user": 65534, "group": 65534, "extra_groups": [], "cwd": "/", "env": {"PATH": WITHOUT_RT}}
-    with own_folder("clone") as place:
-        os.chmod(place, 0o755)
-        other = Clone(f"{place}/a clone", tested)
-        for _ in range(2):
-            assert run([f"{other.folder}/dnorm"], ROADS, **own) == said(ROADS_CANON), "as it was"
-            with other.other(SOURCE, "// another\n"):
-                found = run([f"{other.folder}/dnorm"], ROADS, **own)
-            assert (found.out, found.status) == (b"", 125), "another source"
-            runs("by the other user", other)
-
-
-class Git:
-    """A clone that git keeps."""
-
-    def __init__(self, clone: Clone) -> None:
-        self.clone = clone
-        clone.write(".gitignore", "out/\n")
-        self.run("init", "-q")
-        self.run("add", ".")
-        self.run("-c", "user.name=a", "-c", "user.email=a@example.org", "commit", "-q", "-m", "all")
-        # The mark is later than the index.
-        time.sleep(0.1)
-
-    def run(self, *words: str) -> None:
-        found = run(["git", *words], cwd=self.clone.folder)
-        assert found == said(), words
-
-
-def test_last_answer(clone: Clone) -> None:
-    """Where git keeps a clone, and nobody can build, the last answer stands until git or released/ changes."""
-    need("git")
-    git = Git(clone)
-    runs("the first time", clone)
-    with clone.other("tools/program", "#!/bin/sh\nexit 9\n"):
-        runs("by the last answer", clone)
-    clone.write(SOURCE, "// another\n")
-    runs("a source that git does not know yet", clone)
-    assert clone.run("tools/program").status == 125, "tools/program looks at each source"
-    make({"bin/rt": "#!/bin/sh\nexit 1\n"}, 0o755)
-    found = clone.run("dnorm", given=ROADS, path=f"{os.getcwd()}/bin:{WITHOUT_RT}")
-    assert (found.out, found.status) == (b"", 125), "a source, where rt can build"
-    git.run("add", SOURCE)
-    stops("a source that git knows", clone, NO_RT)
-    git.run("checkout", "-q", "HEAD", "--", SOURCE)
-    runs("a source as it was", clone)
-    for name in [AT, "released/SHA256SUMS"]:
-        time.sleep(0.1)
-        with clone.other(name, b"x" + bytes_of(f"{clone.folder}/{name}")):
-            stops(f"another {name}", clone, CHANGED)
-        runs(f"{name} as it was", clone)
-    runs_built(clone, f"crates.txt\0{SOURCE}\0")
-
-
-@pytest.mark.alone
-def test_cost(clone: Clone) -> None:
-    """./dnorm of a clone takes at most four times the processor time of the program; three without other load."""
-    need("git")
-    Git(clone)
-    runs("the first time", clone)
-
-    def cost(path: str) -> float:
-        before = resource.getrusage(resource.RUSAGE_CHILDREN)
-        for _ in range(50):
-            run([path, "--version"], env={**os.environ, "PATH": WITHOUT_RT})
-        after = resource.getrusage(resource.RUSAGE_CHILDREN)
-        return after.ru_utime + after.ru_stime - before.ru_utime - before.ru_stime
-
-    none, program, script = (
-        min(map(cost, 3 * [it])) for it in ["/bin/true", f"{clone.folder}/{AT}", f"{clone.folder}/dnorm"]
-    )
-    assert script < 4 * program, f"{program} and {script} seconds, and {none} for a program that does nothing"
-
-
-def test_ways_to_call(clone: Clone) -> None:
-    """./dnorm by other paths, a link and PATH, also where CDPATH is set."""
-    os.symlink(f"{clone.folder}/dnorm", "linked")
-    os.mkdir("elsewhere")
-    below = os.path.basename(clone.folder)
-    own = {**os.environ, "PATH": f"{clone.folder}:{WITHOUT_RT}", "CDPATH": f"{os.getcwd()}/elsewhere"}
-    os.makedirs(f"elsewhere/{below}")
-    for words in [["./linked"], [f"./{below}/dnorm"], [f"{below}/dnorm"], ["dnorm"], ["bash", f"{below}/dnorm"]]:
-        for _ in range(2):
-            assert run(words, ROADS, env=own) == said(ROADS_CANON), words
-    assert run(["bash", "dnorm"], ROADS, cwd=clone.folder, env=own) == said(ROADS_CANON), "bash dnorm"
-
-
-def flip(path: str) -> None:
-    """Changes the first byte of a file, and leaves its time as it was."""
-    kept, told = bytes_of(path), os.stat(path)
-    with open(path, "r+b") as file:
-        file.write(bytes([kept[0] ^ 1]))
-    os.utime(path, ns=(told.st_atime_ns, told.st_mtime_ns))
-
-
-def script(clone: Clone) -> None:
-    clone.write("released/x86_64/dnorm", "#!/bin/sh\necho another answer\n")
-    clone.sum()
-
-
-AT = "released/x86_64/dnorm"
-DAMAGES: dict[str, tuple[Callable[[Clone], None], str]] = {
-    "a byte of the program": (lambda clone: flip(f"{clone.folder}/{AT}"), CHANGED),
-    "half of the program": (lambda clone: os.truncate(f"{clone.folder}/{AT}", 5000), CHANGED),
-    "an empty program": (lambda clone: os.truncate(f"{clone.folder}/{AT}", 0), CHANGED),
-    "a sum": (lambda clone: flip(f"{clone.released}/SHA256SUMS"), CHANGED),
-    "no sums": (lambda clone: os.remove(f"{clone.released}/SHA256SUMS"), CHANGED),
-    "a script with its sum": (script, "dnorm: {}/released/x86_64/dnorm is no program: tools/build builds one\n"),
-    "a program that may not run": (lambda clone: os.chmod(f"{clone.folder}/{AT}", 0o644),
-                                   "dnorm: {}/released/x86_64/dnorm is not executable: chmod +x makes it so\n"),
-    "no program": (lambda clone: os.remove(f"{clone.folder}/{AT}"), NO_RT.replace(
-                   "has the proved program 1.0", "lacks its program for x86_64: git restores it")),
-    "no buildinfo": (lambda clone: os.remove(f"{clone.released}/buildinfo"),
-                     NO_RT.replace("; released/ has the proved program 1.0", "")),
-}  # fmt: skip
-# After a call that has checked all, only the program itself is looked at.
-WAYS = [(it, is_marked) for it in DAMAGES for is_marked in [False, True] if not (is_marked and it.startswith("no "))]
-
-
-@pytest.mark.parametrize("what, is_marked", WAYS)
-def test_damaged(clone: Clone, what: str, is_marked: bool) -> None:
-    """A released program that is not whole is not run, the first time and after a call that ran it."""
-    change, line = DAMAGES[what]
-    if is_marked:
-        runs("before", clone)
-    change(clone)
-    stops(what, clone, line.format(clone.folder))
-
-
-def test_packed(clone: Clone, tested: str) -> None:
-    """A program that is packed, as the one for aarch64 is."""
-    name = "released/x86_64/dnorm.gz"
+def test_program(clone: Clone) -> None:
+    """./dnorm runs what is built, else what is released for this processor, and looks at nothing else."""
+    clone.write("build/dnorm", '#!/bin/sh\necho built "$@"\nexit 9\n', 0o755)
+    assert clone.run("bin/dnorm", "a b", "") == said("built a b \n", status=9)
+    os.symlink("bin/dnorm", f"{clone.folder}/dnorm")
+    assert clone.run("dnorm") == said("built\n", status=9)
+    shutil.rmtree(f"{clone.folder}/build")
+    clone.write("crates/dnorm/src/lib.rt", "// another source\n")
+    before = {it: os.stat(it).st_mtime_ns for it, _, _ in os.walk(clone.folder)}
+    for it in ["bin/dnorm", "dnorm"]:
+        assert clone.run(it, given=ROADS) == said(ROADS_CANON), it
+    # A clone that cannot be written to serves as well.
+    assert {it: os.stat(it).st_mtime_ns for it, _, _ in os.walk(clone.folder)} == before
     os.remove(f"{clone.released}/x86_64/dnorm")
-    clone.write(name, gzip.compress(bytes_of(tested)))
-    clone.sum()
-    runs("a packed program", clone)
-    runs("a packed program, again", clone)
-    os.chmod(f"{clone.folder}/{OUT}/released/dnorm-x86_64", 0o644)
-    runs("what was unpacked may not run", clone)
-    flip(f"{clone.folder}/{OUT}/released/dnorm-x86_64")
-    runs("what was unpacked has changed", clone)
-    mark = os.stat(f"{clone.folder}/{OUT}/released/mark-x86_64").st_mtime_ns
-    runs("a packed program, once more", clone)
-    same = os.stat(f"{clone.folder}/{OUT}/released/mark-x86_64").st_mtime_ns == mark
-    assert same, "it is not unpacked again"
-    with clone.other(SOURCE, "// another\n"):
-        stops("another source of a packed program", clone, NO_RT)
-    runs("its source as it was", clone)
-    kept = bytes_of(f"{clone.folder}/{name}")
-    line = f"dnorm: {clone.folder}/{name} could not be unpacked to {clone.folder}/{OUT}/released/dnorm-x86_64\n"
-    for changed in [bytes([*kept[:5000], kept[5000] ^ 1, *kept[5001:]]), kept[:-9]]:
-        clone.write(name, changed)
-        stops(f"{len(changed)} other bytes of a packed program", clone, line)
-    assert sorted(os.listdir(f"{clone.folder}/{OUT}/released")) == ["dnorm-x86_64", "mark-x86_64"], "what is left of it"
+    wants = "dnorm: released/ has no program for x86_64, and none is built: make builds it\n"
+    assert clone.run("bin/dnorm") == said("", wants, 125)
 
 
-def test_kits(clone: Clone) -> None:
-    """Other programs that are named rt: nothing is proved, and both versions are told."""
-    clone.write(SOURCE, "// another\n")
-    path = f"{clone.folder}/bin:{WITHOUT_RT}"
-    said = {
-        "echo 'rattle-kit-14 logic 00'": "rattle-kit-14 logic 00",
-        "echo 'rt: no such command' >&2; exit 1": "rt: no such command",
-        "exit 3": "nothing",
-        f"echo '{KIT} and more'": f"{KIT} and more",
-    }
-    for text, found in said.items():
-        clone.write("bin/rt", f"#!/bin/sh\n{text}\n", 0o755)
-        wrong = f"{clone.folder}/bin/rt is another program or another version: `rt version` prints '{found}'"
-        stops(f"rt: {text}", clone, NO_RT.replace("there is no rt on the PATH", wrong), path)
-    clone.write("bin/rt", f"#!/bin/sh\necho '{KIT}'\n")
-    wrong = f"{clone.folder}/bin/rt is not in the folder of a kit"
-    stops("rt outside of a kit", clone, NO_RT.replace("there is no rt on the PATH", wrong), path)
+# What stands for `rt`, and what is said of it.
+OTHER = "another program, which belongs to no kit: `rt version` prints"
+NO_KITS = [
+    ("echo 'RT 4.4'", f"{OTHER} 'RT 4.4'"),
+    ("exit 1", f"{OTHER} 'nothing'"),
+    ("printf '\\0\\377'", f"{OTHER} '\\x00\\ufffd'"),
+    (f"echo {KIT}", f"{OTHER} {KIT!r}"),
+]
 
 
-def test_without_python(clone: Clone) -> None:
-    """Tests ./dnorm where there is no python3, which only a proof needs."""
-    for name in USED.split():
-        clone.link(f"bin/{name}", shutil.which(name, path=WITHOUT_RT) or "")
-    path = f"{clone.folder}/bin"
-    runs("without python3", clone, path)
-    # A call after one that has checked all runs little else than the program.
-    for name in {*USED.split()} - {"bash", "env", "find"}:
-        os.remove(f"{path}/{name}")
-    runs("by bash and find alone", clone, path)
-    for name in USED.split():
-        if not os.path.lexists(f"{path}/{name}"):
-            clone.link(f"bin/{name}", shutil.which(name, path=WITHOUT_RT) or "")
-    clone.write(SOURCE, "// another\n")
-    line = "dnorm: no program is released for these sources; a proof needs python3 and the kit "
-    stops("another source without python3", clone, f"{line}'{KIT}': see docs/PROVED.md\n", path)
+def test_no_kit(clone: Clone) -> None:
+    """What is said without a kit: which source differs, what runs as it is, and what is missing."""
+    runs = "dnorm: released/x86_64/dnorm is the proved program 1.0, which runs as it is"
+    assert clone.run("tools/kit.py") == said("", f"{runs}\n{NO_KIT}there is no rt on the PATH\n", 125)
+    differs = "dnorm: crates/dn_num/src/lib.rt differs from release 1.0\n"
+    undo = ", and `git checkout crates/dn_num/src/lib.rt` undoes the change"
+    with clone.other("crates/dn_num/src/lib.rt"):
+        wants = said("", f"{differs}{runs}{undo}\n{NO_KIT}there is no rt on the PATH\n", 125)
+        assert clone.run("tools/kit.py") == wants, "an edit"
+    clone.write("crates/dn_num/src/lib.rt", "// another source\n")
+    clone.commit()
+    wants = said("", f"{differs}{runs}\n{NO_KIT}there is no rt on the PATH\n", 125)
+    assert clone.run("tools/kit.py") == wants, "a commit"
+    assert clone.run("tools/prover.py", "build", "dn_num") == wants
+    os.remove(f"{clone.folder}/kit/WHAT")
+    path = f"{clone.folder}/front:{WITHOUT_RT}"
+    for does, why in NO_KITS:
+        clone.rt(does)
+        found = clone.run("tools/kit.py", path=path)
+        assert (found.out, found.status) == (b"", 125), does
+        assert found.err.decode().splitlines()[-1] == f"{NO_KIT}{clone.folder}/front/rt is {why}", does
+
+
+def test_slow_rt(clone: Clone, monkeypatch: pytest.MonkeyPatch) -> None:
+    """An `rt` that does not end belongs to no kit."""
+    monkeypatch.setattr(kit, "LIMIT", 0.2)
+    clone.rt("exec sleep 1000")
+    assert kit.printed(f"{clone.folder}/front/rt", "version") == "nothing (TimeoutExpired)"
+
+
+def test_any_kit(clone: Clone) -> None:
+    """A kit of any name is taken."""
+    clone.rt("echo another-kit logic fedcba9876543210")
+    found = clone.run("tools/kit.py", path=f"{clone.folder}/front:{WITHOUT_RT}")
+    assert found == said(f"{clone.folder}/kit\n")
+
+
+def test_half_a_proof(clone: Clone) -> None:
+    """A kit that fails half way: its last lines, and nothing that counts as proved."""
+    clone.write("kit/bin/rattle", "#!/bin/sh\necho a goal is open\nexit 1\n", 0o755)
+    found = clone.run("tools/prover.py", "build", "dn_num", path=f"{clone.folder}/front:{WITHOUT_RT}")
+    assert found == said("", "a goal is open\ndnorm: dn_num could not be proved and built\n", 1)
+
+
+def test_proved_once(clone: Clone) -> None:
+    """`make CHECKED=1` proves no crate below the program again, which `rt ci` has proved."""
+    env = {**os.environ, "PATH": f"{clone.folder}/front:{WITHOUT_RT}"}
+    for checked, proves in [("", True), ("1", False)]:
+        found = run(["make", "-n", "-C", clone.folder, f"CHECKED={checked}", "dnorm.proved"], env=env)
+        assert (found.status, b" build dn_num --statements" in found.out) == (0, proves)
 
 
 def test_library(clone: Clone) -> None:
-    """Tools/c-library and ./install without the kit."""
-    assert clone.run("tools/c-library") == said(), "tools/c-library"
-    found_libraries = {name: bytes_of(f"{clone.folder}/c/out/lib/{name}") for name in LIBRARIES}
-    assert found_libraries == {name: name.encode() for name in LIBRARIES}, "the libraries"
-    prefix = f"{clone.folder}/prefix"
-    found = clone.run("install", prefix)
-    assert (found.err, found.status) == (b"", 0), "./install"
-    places = ["bin/dnorm", "include/dnorm.h", "lib/libdnorm.a"]
-    assert [os.path.exists(f"{prefix}/{it}") for it in places] == [True] * 3, "what is installed"
-    assert run([f"{prefix}/bin/dnorm"], ROADS) == said(ROADS_CANON), "the installed program"
-    for name in ["c/dnorm.map", "crates/dn_c/src/lib.rt"]:
-        with clone.other(name):
-            assert clone.run("tools/c-library") == said("", NO_RT, 125), f"tools/c-library, another {name}"
-            line = "dnorm: no library is released for these sources: tools/c-library proves and builds it\n"
-            assert clone.run("tools/c-library", "--released") == said("", line, 125), f"--released, another {name}"
-            assert clone.run("install", prefix).status == 125, f"./install, another {name}"
-    flip(f"{clone.released}/x86_64/libdnorm.a.gz")
-    os.remove(f"{clone.folder}/c/out/built")
-    line = "dnorm: released/ has other bytes than SHA256SUMS says: git restores it\n"
-    assert clone.run("tools/c-library") == said("", line, 125), "tools/c-library, another byte"
-    assert clone.run("tools/c-library", "--proved") == said("", NO_RT, 125), "--proved without the kit"
-
-
-def test_library_in_use(clone: Clone) -> None:
-    """Several calls of tools/c-library at once, and a library that a program has open stays whole."""
-    calls = [[f"{clone.folder}/tools/c-library"] for _ in range(6)]
-    running = [subprocess.Popen(it, env={**os.environ, "PATH": WITHOUT_RT}, stderr=subprocess.PIPE) for it in calls]
-    assert [(it.communicate()[1], it.returncode) for it in running] == [(b"", 0)] * 6
-    library = f"{clone.folder}/c/out/lib/libdnorm.so.3"
-    with open(library, "rb", buffering=0) as file:
-        clone.pack("libdnorm.so.3", b"another")
-        clone.sum()
-        assert clone.run("tools/c-library") == said()
-        assert (file.read(), bytes_of(library)) == (b"libdnorm.so.3", b"another")
-
-
-# Runs tools/c-library of this folder as on a machine with another processor.
-ELSEWHERE = """
-import platform, runpy, sys
-platform.machine = lambda: "riscv64"
-sys.path.insert(0, sys.argv[1] + "/tools")
-sys.argv = [sys.argv[1] + "/tools/c-library"]
-runpy.run_path(sys.argv[0], run_name="__main__")
-"""
-
-
-def test_other_processor(clone: Clone) -> None:
-    """tools/c-library compiles the released C file for a processor that has no released library."""
-    need("cc")
-    clone.write("released/c/libdnorm.c", "#ifdef DNORM_SHARED\nint dnorm_begin(void) { return 7; }\n#endif\n")
-    for it in ["wasm", "c-file", *(f"wasm_{it}.py" for it in ("module", "operations", "to_c"))]:
-        clone.write(f"tools/{it}", "")
-    for it in ["head", "tail"]:
-        clone.write(f"c/file-{it}.c", "")
-    clone.tell(f"sources of the c-file: {clone.run('tools/source-sum', 'c-file').out.decode()}")
-    told = "dnorm: compiling the library, which is released as a C file\n"
-    assert run([sys.executable, "-c", ELSEWHERE, clone.folder]) == said("", told, 0)
+    """c/put takes what is built, else what is released for this processor, else it compiles the released C file."""
+    to = f"{clone.folder}/prefix"
+    for place, text in [("build", "built"), ("released/x86_64", "libdnorm.a")]:
+        clone.write(f"{place}/libdnorm.a", text)
+        assert clone.run("c/put", to) == said()
+        assert text_of(f"{to}/lib/libdnorm.a") == text
+        shutil.rmtree(f"{clone.folder}/build", ignore_errors=True)
+    clone.write("other/uname", "#!/bin/sh\necho riscv64\n", 0o755)
+    assert clone.run("c/put", to, path=f"{clone.folder}/other:{WITHOUT_RT}") == said()
     use = "import ctypes, sys; print(ctypes.CDLL(sys.argv[1]).dnorm_begin())"
-    assert run([sys.executable, "-c", use, f"{clone.folder}/c/out/lib/libdnorm.so.3"]) == said("7\n")
-    assert b"libdnorm.o" in bytes_of(f"{clone.folder}/c/out/lib/libdnorm.a")
-    clone.write("c/file-tail.c", "// another\n")
-    found = run([sys.executable, "-c", ELSEWHERE, clone.folder], env={**os.environ, "PATH": WITHOUT_RT})
-    assert found == said("", NO_RT.replace("; released/ has the proved program 1.0", ""), 125), "other sources"
+    assert run([sys.executable, "-c", use, f"{to}/lib/libdnorm.so.3"]) == said("7\n")
+    version = text_of(f"{to}/lib/pkgconfig/dnorm.pc").partition("Version: ")[2].partition("\n")[0]
+    assert version == run([f"{clone.released}/x86_64/dnorm", "--version"]).out.decode().split()[1]
 
 
-# What ./check calls, each of which stands for itself in a scratch copy: it notes its process, and passes one check. The
-# one that is asked to stay starts others, also detached ones and through one that has ended, and waits.
-CALLED = ["tools/lint", "tools/definitions", "bench/figures", "tools/kit.py", "tools/wrong-bodies", "tools/c-library"]
-CALLED += ["tools/build", "tools/released", "tools/third-party", "tests/run", "bin/rt"]
+def finds(clone: Clone, what: str, line: str, *counts: int) -> None:
+    """Tools/released prints this line, and how many of its checks pass, fail and are left out."""
+    found = clone.run("tools/released", path=f"{clone.folder}/front:{os.environ['PATH']}")
+    passed, failed, left = counts
+    wants = f"{passed} passed, {failed} failed, {left} skipped\n"
+    told = found.out.decode()
+    assert line in told and told.endswith(wants) and found.status == (failed > 0), f"{what}: {found}"
+
+
+def test_compared(clone: Clone) -> None:
+    """Tools/released finds what is not made again, and leaves out what other sources or another kit has made."""
+    finds(clone, "as it was made", "", 6, 0, 3)
+    for name in ["dnorm", *LIBRARIES]:
+        with clone.other(f"released/x86_64/{name}"):
+            finds(clone, f"a byte of {name}", "do not have the sums", 4, 2, 3)
+            clone.sum()
+            finds(clone, f"a byte of {name}, with its sum", f"x86_64/{name} has other bytes", 5, 1, 3)
+        clone.sum()
+    for name, passed in [("build/dnorm.o", 4), ("build/dn_c.a", 3)]:
+        with clone.other(name):
+            finds(clone, f"another {name}", f"{name} is not the object of the release", passed, 1, 3)
+            clone.rt("echo another-kit logic fedcba9876543210")
+            finds(clone, f"another {name} by another kit", f"left out: what is made of {name}", passed, 0, 4)
+            clone.rt(f"echo {KIT}")
+    clone.rt("echo another-kit logic fedcba9876543210")
+    finds(clone, "another kit that makes the same", "", 6, 0, 3)
+    clone.write("released/x86_64/more", "")
+    finds(clone, "a file more", "do not have the sums", 5, 1, 3)
+    os.remove(f"{clone.released}/x86_64/more")
+    with clone.other("crates/dnorm/src/lib.rt"):
+        finds(clone, "another source that makes the same", "", 6, 0, 3)
+        with clone.other("build/dnorm.o"), clone.other("build/dn_c.a"):
+            finds(clone, "another source", "left out: the released program, which", 1, 0, 5)
+    with clone.other("c/dnorm.map"):
+        finds(clone, "another c/dnorm.map", "left out: the released library, which", 3, 0, 4)
+
+
+SCRIPTS = "check bin/install c/put c/link c/file/make tools/released tools/setup tools/lint tools/definitions"
+SCRIPTS += " tools/generate tools/lists tools/plants tools/wrong-bodies tools/wrong-definitions tools/wasm"
+SCRIPTS += " tools/kit.py tools/prover.py packaging/release packaging/third-party bench/catalogue bench/figures"
+SCRIPTS += " bench/measure c/file/stage web/make-page"
+
+
+@pytest.mark.parametrize("script", SCRIPTS.split())
+def test_help(folder: str, script: str) -> None:
+    """`-h` and `--help` print what a script is for, before anything is looked at; another option is refused."""
+    for word in ["-h", "--help"]:
+        found = run([f"{ROOT}/{script}", word], env={"PATH": os.environ["PATH"]})
+        assert (found.err, found.status) == (b"", 0) and len(found.out.splitlines()) > 2, word
+    found = run([f"{ROOT}/{script}", "--nonsense"], env={"PATH": os.environ["PATH"]})
+    assert (found.out, len(found.err.splitlines()), found.status) == (b"", 1, 2), found
+
+
+def test_all_have_help() -> None:
+    """Each script of these folders has its row above."""
+    found = [f"{at}/{it}" for at in ["bin", "tools", "packaging", "bench"] for it in os.listdir(f"{ROOT}/{at}")]
+    ours = {it for it in found if os.access(f"{ROOT}/{it}", os.X_OK) and os.path.isfile(f"{ROOT}/{it}")}
+    commands = {f"bin/{it}" for it in ["dnorm", "dnorm-files", "dnorm-explain", "canon-in-parts"]}
+    assert ours - commands <= {*SCRIPTS.split()}
+
+
+def test_without_python(folder: str) -> None:
+    """./check says once what it lacks."""
+    os.mkdir("bin")
+    for it in ["bash", "dirname", "realpath", "env"]:
+        os.symlink(shutil.which(it) or "", f"bin/{it}")
+    found = run([f"{ROOT}/check"], env={"PATH": f"{folder}/bin"})
+    assert found == said("", "check: it needs Python 3.10 or later, and there is no python3 on the path\n", 127)
+
+
+CALLED = ["tools/lint", "tools/definitions", "bench/figures", "bin/rt", "tools/released", "packaging/third-party"]
+CALLED += ["tools/wrong-bodies", "bin/make", "bin/coqc", "bin/ocamlfind"]
 STANDS = """#!/bin/bash
 echo $$ >> "$LOG"
 cd "$TMPDIR"
-case ${0##*/} in
-    "$STAYS")
-        sleep 1000 &
-        echo $! >> "$LOG"
-        (setsid bash -c 'echo $$ >> "$LOG"; touch "$LOG.one"; sleep 1000; :' & sleep 1000) &
-        bash -c '[ ! "$IGNORED" ] || trap "" TERM; echo $$ >> "$LOG"; touch "$LOG.other"; sleep 1000; :' &
-        until [[ -e $LOG.one && -e $LOG.other ]]; do sleep 0.1; done
-        touch "$LOG.ready"
-        wait
-        ;;
-    wrong-bodies) cat > /dev/null ;;
-esac
+if [[ ${0##*/} == "$STAYS" ]]; then
+    sleep 1000 &
+    echo $! >> "$LOG"
+    bash -c 'echo $$ >> "$LOG"; touch "$LOG.ready"; sleep 1000; :' &
+    wait
+fi
 echo '1 passed, 0 failed'
 """
-ENDED = [
-    ("lint", signal.SIGTERM, ""), ("rt", signal.SIGINT, ""), ("build", signal.SIGHUP, ""), ("run", signal.SIGTERM, ""),
-]  # fmt: skip
 
 
-@pytest.mark.parametrize("stays, number, ignored", [*ENDED, ("c-library", signal.SIGTERM, "yes")])
-def test_ended_check(folder: str, heeded: None, stays: str, number: int, ignored: str) -> None:
+def scratch_check(folder: str, kit_is: str = "exit 0") -> dict[str, str]:
+    """Makes ./check with what stands for all that it calls, and returns its environment."""
+    shutil.copy(f"{ROOT}/check", "check")
+    os.mkdir("temporary")
+    make(dict.fromkeys(CALLED, STANDS) | {"tools/kit.py": f"#!/bin/sh\n{kit_is}\n"}, 0o755)
+    write("tools/usage.sh", text_of(f"{ROOT}/tools/usage.sh"))
+    own = {"PATH": f"{folder}/bin:{os.environ['PATH']}", "LOG": f"{folder}/log", "TMPDIR": f"{folder}/temporary"}
+    return {**os.environ, **own, "STAYS": "", "RT_JOBS": "1", "CI": ""}
+
+
+ENDED = [("lint", signal.SIGTERM), ("rt", signal.SIGINT), ("make", signal.SIGHUP)]
+
+
+@pytest.mark.parametrize("stays, number", ENDED)
+def test_ended_check(folder: str, heeded: None, stays: str, number: int) -> None:
     """./check that is ended by a signal, which it alone gets, ends all that it has started, and leaves no file."""
-    own = scratch_check(folder) | {"STAYS": stays, "IGNORED": ignored}
+    own = scratch_check(folder) | {"STAYS": stays}
     process = subprocess.Popen(["./check"], env=own, stdout=subprocess.DEVNULL)
     try:
         while process.poll() is None and not os.path.exists("log.ready"):
             time.sleep(0.05)
         process.send_signal(number)
         assert process.wait(LIMIT) == -number
+        time.sleep(0.2)
         assert [it for it in text_of("log").split() if os.path.exists(f"/proc/{it}/exe")] == []
         assert os.listdir("temporary") == []
     finally:
@@ -535,107 +324,27 @@ def test_ended_check(folder: str, heeded: None, stays: str, number: int, ignored
                 os.kill(int(it), signal.SIGKILL)
 
 
-def scratch_check(folder: str) -> dict[str, str]:
-    """Makes ./check with what stands for all that it calls, and returns its environment."""
-    shutil.copy(f"{ROOT}/check", "check")
-    os.mkdir("temporary")
-    make(dict.fromkeys(CALLED, STANDS), 0o755)
-    os.makedirs("crates/dnorm/out")
-    own = {"PATH": f"{folder}/bin:{os.environ['PATH']}", "LOG": f"{folder}/log", "TMPDIR": f"{folder}/temporary"}
-    return {**os.environ, **own, "STAYS": "", "IGNORED": "", "RT_JOBS": "1", "CI": ""}
-
-
-@pytest.mark.parametrize(
-    "failing, line", [("", "12 passed, 0 failed"), *((it, "11 passed, 1 failed") for it in CALLED[4:8])]
-)
-def test_counts_of_check(folder: str, heeded: None, failing: str, line: str) -> None:
-    """What ./check counts, also of what runs beside it, and its status."""
+@pytest.mark.parametrize("failing", ["", "bench/figures", "bin/rt", "tools/wrong-bodies"])
+def test_counts_of_check(folder: str, heeded: None, failing: str) -> None:
+    """What ./check counts, of its own scripts and of pytest, and its status."""
     own = scratch_check(folder)
+    make({"bin/make": STANDS.replace("1 passed, 0 failed", "1 failed, 5 passed, 2 skipped, 1 error in 0.1s")}, 0o755)
     if failing:
         write(failing, STANDS.replace("1 passed, 0 failed'", "0 passed, 1 failed'; exit 1"))
     found = run(["./check"], env=own)
-    assert (found.out.decode().splitlines()[-1], found.status) == (line, 1 if failing else 0), found
-    told = found.out.decode().splitlines()[-3:-1] if failing else []
-    assert [os.path.basename(failing) in it for it in told] == [True, False][: len(told)], "what failed is told last"
+    count = f"{28 - bool(failing)} passed, {8 + bool(failing)} failed, 8 skipped"
+    assert (found.out.decode().splitlines()[-1], found.status) == (count, 1), found
+    told = [it for it in found.out.decode().splitlines() if it.endswith(" failed:")]
+    assert any(it.startswith(failing.removeprefix("bin/")) for it in told) or not failing, told
     assert os.listdir("temporary") == []
 
 
-def test_left_out(tested: str, folder: str) -> None:
-    """What tests/run says of tests that are left out, and what mends it."""
-    os.mkdir("bin")
-    for it in ["python3", "env", "bash", "cc"]:
-        os.symlink(shutil.which(it) or "", f"bin/{it}")
-    words = [f"{ROOT}/tests/run", tested, "--", f"{ROOT}/tests/program/test_completions.py", "-k"]
-    environment = {**os.environ, "PATH": f"{folder}/bin", "PYTEST_XDIST_AUTO_NUM_WORKERS": "1", "CI": ""}
-    found = run([*words, "test_zsh or test_bash_loads"], env=environment)
-    told = found.out.decode().splitlines()[-3:]
-    zsh = "left out, since zsh is missing: tests/program/test_completions.py::test_zsh"
-    mends = "1 case is left out, which needs tools that are missing: tools/setup installs them, except the kit"
-    assert (told, found.status) == ([zsh, mends, "3 passed, 0 failed"], 0), found
-
-
-def linked_here(clone: Clone) -> str:
-    """Makes released/ of what the kit has made here, and returns what it was linked with and from."""
-    lines = ["linked for x86_64:"]
-    linker = run(["gcc", "-print-prog-name=ld"]).out.decode().strip()
-    for it in ["gcc", linker]:
-        lines.append(f"{os.path.basename(it)}: {run([it, '--version']).out.decode().splitlines()[0]}")
-    libc = run(["gcc", "-print-file-name=libc.a"]).out.decode().strip()
-    for it in [*(f"{clone.folder}/{name}" for name in MADE[:2]), libc]:
-        lines.append(f"{run(['sha256sum', it]).out.decode().split()[0]}  {os.path.basename(it)}")
-    return "".join(f"{it}\n" for it in lines)
-
-
-@pytest.fixture
-def made_here(clone: Clone) -> Clone:
-    """Returns a scratch repository with what the kit has made here, of which its released/ is made."""
-    for tool in ["rt", "gcc"]:
-        if not shutil.which(tool):
-            leave_out(tool)
-    lacking = [name for name in MADE if not os.path.exists(f"{ROOT}/{name}")]
-    if lacking or KIT != run(["rt", "version"]).out.decode().strip():
-        pass_over(", ".join(lacking) or KIT)
-    for name in MADE:
-        clone.write(name, bytes_of(f"{ROOT}/{name}"))
-    found = clone.run("tools/link-program", f"{clone.released}/x86_64/dnorm", path=os.environ["PATH"])
-    assert found == said(), "tools/link-program"
-    for name in LIBRARIES:
-        clone.pack(name, bytes_of(f"{ROOT}/{LIBRARY}/{name}"))
-    clone.tell(linked_here(clone))
-    return clone
-
-
-def finds(clone: Clone, what: str, line: str, passed: int, failed: int) -> None:
-    """Tools/released prints this line, and how many of its checks pass and fail."""
-    found = clone.run("tools/released", path=os.environ["PATH"])
-    said = found.out.decode()
-    is_so = line in said and said.endswith(f"{passed} passed, {failed} failed\n") and found.status == (failed > 0)
-    assert is_so, f"tools/released, {what}: {found}"
-
-
-def test_compared(made_here: Clone) -> None:
-    """Tools/released finds what is not made again."""
-    clone = made_here
-    finds(clone, "as it was made", "", 7, 0)
-    for name in ["dnorm", *(f"{name}.gz" for name in LIBRARIES)]:
-        flip(f"{clone.released}/x86_64/{name}")
-        finds(clone, f"a byte of {name}", "do not have the sums", 5, 2)
-        clone.sum()
-        finds(clone, f"a byte of {name}, with its sum", f"x86_64/{name} has other bytes", 6, 1)
-        flip(f"{clone.released}/x86_64/{name}")
-        clone.sum()
-    for name, line, passed in [(MADE[0], "the object that is proved", 4), (MADE[1], "the archive of dn_c", 6)]:
-        flip(f"{clone.folder}/{name}")
-        finds(clone, f"another {name}", line, passed, 1)
-        flip(f"{clone.folder}/{name}")
-    clone.write("released/x86_64/more", "")
-    finds(clone, "a file more", "do not have the sums", 6, 1)
-    os.remove(f"{clone.released}/x86_64/more")
-    clone.tell(re.sub(r"\w{64}  libc\.a", f"{'0' * 64}  libc.a", linked_here(clone)))
-    finds(clone, "another C library", "another gcc, linker or C library", 4, 0)
-    clone.tell(linked_here(clone))
-    for name, kind in [("crates/dnorm/src/main.rt", "program"), ("c/dnorm.map", "library")]:
-        with clone.other(name):
-            finds(clone, f"another {name}", f"the {kind} was made from other sources", 4, 0)
-    clone.write("kit.txt", f"{KIT}x\n")
-    finds(clone, "another kit", "the program was made from other sources", 1, 0)
+@pytest.mark.parametrize("ci, failed", [("", 0), ("true", 1)])
+def test_nothing_proved(folder: str, heeded: None, ci: str, failed: int) -> None:
+    """Without a kit, the line before the count says that nothing was proved."""
+    why = "dnorm: proving and building needs a kit of Rattle (see docs/PROVED.md), and there is no rt on the PATH"
+    own = scratch_check(folder, f"echo '{why}' >&2; exit 125") | {"CI": ci}
+    found = run(["./check"], env=own)
+    told = "left out: all proofs, since there is no rt on the PATH: nothing was proved"
+    assert found.out.decode().splitlines()[-2:] == [told, f"5 passed, {failed} failed, 1 skipped"]
+    assert found.status == failed

@@ -59,8 +59,8 @@ module _ {Arc : Type 0} where
 
 module _ {Arc : Type 0} (kind : ArcKind Arc) (meaning : IsMeaning kind.Same) where
   -- graphs that mean the same still do for any choice of pairs
-  choice_same : (G H : Graph Arc) → SameGraph kind G H → (chosen : ℤ × ℤ → Bool)
-      → SameGraph kind (only chosen G) (only chosen H)
+  choice_same : (G H : Graph Arc) → SameGraph kind.Same G H → (chosen : ℤ × ℤ → Bool)
+      → SameGraph kind.Same (only chosen G) (only chosen H)
   choice_same G H s chosen = record {
     nodes = s.nodes;
     bundles = λ p.
@@ -70,7 +70,7 @@ module _ {Arc : Type 0} (kind : ArcKind Arc) (meaning : IsMeaning kind.Same) whe
 
   -- graphs without self-loops mean the same if the arcs of different nodes do
   no_loop_same : (G H : Graph Arc) → G.nodes ≡ H.nodes → HasNoLoop G → HasNoLoop H
-      → ((p : ℤ × ℤ) → p.0 ≢ p.1 → kind.Same (bundle p G.arcs) (bundle p H.arcs)) → SameGraph kind G H
+      → ((p : ℤ × ℤ) → p.0 ≢ p.1 → kind.Same (bundle p G.arcs) (bundle p H.arcs)) → SameGraph kind.Same G H
   no_loop_same G H n g h f = record {
     nodes = n;
     bundles = λ p. elim (cases_Bool (int_eq p.0 p.1)) [
@@ -92,7 +92,7 @@ tail_of n p (a ∷ arcs) h = elim (cases_Bool (same_pair p a.0)) [
 
 pub lengths_exactly : (G H : Graph LengthArc) → IsValidGraph lengths G → IsValidGraph lengths H → G.nodes ≡ H.nodes
     → HasNoLoop G → HasNoLoop H
-    → SameGraph lengths G H ↔ ((chosen : ℤ × ℤ → Bool) (u v d : ℤ)
+    → SameGraph lengths.Same G H ↔ ((chosen : ℤ × ℤ → Bool) (u v d : ℤ)
     → IsDistance (only chosen G) u v d ↔ IsDistance (only chosen H) u v d)
 lengths_exactly G H x y n g h = (
   λ s chosen. same_distances (only chosen G) (only chosen H) (choice_same lengths length_meaning G H s chosen),
@@ -120,7 +120,7 @@ caps_chosen chosen (a ∷ arcs) h = elim (cases_Bool (chosen a.0)) [
 
 pub capacities_exactly : (G H : Graph CapArc) → IsValidGraph capacities G → IsValidGraph capacities H
     → G.nodes ≡ H.nodes → HasNoLoop G → HasNoLoop H
-    → SameGraph capacities G H ↔ ((chosen : ℤ × ℤ → Bool) (source sink x : ℤ)
+    → SameGraph capacities.Same G H ↔ ((chosen : ℤ × ℤ → Bool) (source sink x : ℤ)
     → IsGreatestValue source sink (only chosen G) x ↔ IsGreatestValue source sink (only chosen H) x)
 capacities_exactly G H x y n g h =
     let caps = caps_of G.nodes G.arcs x.placed in
@@ -136,7 +136,7 @@ capacities_exactly G H x y n g h =
     )
 
 pub costs_exactly : (G H : Graph CostArc) → G.nodes ≡ H.nodes → HasNoLoop G → HasNoLoop H
-    → SameGraph costs G H ↔ ((chosen : ℤ × ℤ → Bool) (supplies : List (ℤ × ℤ)) (k : ℤ)
+    → SameGraph costs.Same G H ↔ ((chosen : ℤ × ℤ → Bool) (supplies : List (ℤ × ℤ)) (k : ℤ)
     → IsLeastCost supplies (only chosen G) k ↔ IsLeastCost supplies (only chosen H) k)
 costs_exactly G H n g h = (
   λ s chosen supplies.

@@ -38,7 +38,7 @@ caps_at p (a ∷ rest) h = elim (cases_Bool (same_pair p a.0)) [
   | inr t ↦ rw t (caps_at p rest h.1)
 ]
 
-pub flow_there : (source sink : ℤ) (G H : Graph CapArc) → SameGraph capacities G H
+pub flow_there : (source sink : ℤ) (G H : Graph CapArc) → SameGraph capacities.Same G H
     → AllByRecursion (λ a. IsCapArc a.1) H.arcs → (flow : List ℤ) → IsFlow source sink G flow
     → HasMatchingFlow source sink G H flow
 flow_there source sink G H s caps flow f =
@@ -54,7 +54,7 @@ flow_there source sink G H s caps flow f =
       units = same;
     }
 
-value_there : (source sink : ℤ) (G H : Graph CapArc) → SameGraph capacities G H
+value_there : (source sink : ℤ) (G H : Graph CapArc) → SameGraph capacities.Same G H
     → AllByRecursion (λ a. IsCapArc a.1) H.arcs → (x : ℤ) → HasValue source sink G x → HasValue source sink H x
 value_there source sink G H s caps x h =
     let f = flow_there source sink G H s caps h.flow h.is in
@@ -70,7 +70,7 @@ pub caps_of : (n : ℤ) (arcs : List ((ℤ × ℤ) × CapArc)) → AllByRecursio
 caps_of n [] h = tt
 caps_of n (a ∷ rest) h = (h.0.is_arc, caps_of n rest h.1)
 
-module _ (source sink : ℤ) (G H : Graph CapArc) (s : SameGraph capacities G H)
+module _ (source sink : ℤ) (G H : Graph CapArc) (s : SameGraph capacities.Same G H)
     (g : AllByRecursion (λ a. IsCapArc a.1) G.arcs) (h : AllByRecursion (λ a. IsCapArc a.1) H.arcs) where
   pub same_values : (x : ℤ) → HasValue source sink G x ↔ HasValue source sink H x
   same_values x =
@@ -94,7 +94,7 @@ pub no_costlier : (xs ys : List ((ℤ × ℤ) × CostArc)) (fs gs : List ℤ)
     → flow_cost ys gs ≤ℤ flow_cost xs fs
 no_costlier xs ys fs gs h = omega (arith, ints, cost_sum xs fs, cost_sum ys gs)
 
-pub feasible_there : (supplies : List (ℤ × ℤ)) (G H : Graph CostArc) → SameGraph costs G H → (flow : List ℤ)
+pub feasible_there : (supplies : List (ℤ × ℤ)) (G H : Graph CostArc) → SameGraph costs.Same G H → (flow : List ℤ)
     → IsFeasible supplies G flow → HasMatchingFeasible supplies G H flow
 feasible_there supplies G H s flow f =
     let m = matched cost_low cost_high spent (λ p. true) G.arcs H.arcs
@@ -141,13 +141,13 @@ module _ (supplies : List (ℤ × ℤ)) (G H : Graph CostArc) (there : Covers su
   pub covered_least : IsLeastCost supplies G k ↔ IsLeastCost supplies H k
   covered_least = (least_there supplies G H there back k, least_there supplies H G back there k)
 
-same_covers : (supplies : List (ℤ × ℤ)) (G H : Graph CostArc) → SameGraph costs G H → Covers supplies G H
+same_covers : (supplies : List (ℤ × ℤ)) (G H : Graph CostArc) → SameGraph costs.Same G H → Covers supplies G H
 same_covers supplies G H s = record {
   at = λ flow f. (let m = feasible_there supplies G H s flow f in
       record { flow = m.other; is = m.is; within = m.cost });
 }
 
-module _ (supplies : List (ℤ × ℤ)) (G H : Graph CostArc) (s : SameGraph costs G H) where
+module _ (supplies : List (ℤ × ℤ)) (G H : Graph CostArc) (s : SameGraph costs.Same G H) where
   back : Covers supplies H G
   back = same_covers supplies H G (graph_sym costs curve_meaning G H s)
 

@@ -101,7 +101,7 @@ replaced xs ys s u v (a ∷ walk) h leads =
     }
 
 -- each walk has one along the same pairs in the other graph that is no longer
-pub alike_walk : (G H : Graph LengthArc) → SameGraph lengths G H → (u v : ℤ) (walk : List ((ℤ × ℤ) × LengthArc))
+pub alike_walk : (G H : Graph LengthArc) → SameGraph lengths.Same G H → (u v : ℤ) (walk : List ((ℤ × ℤ) × LengthArc))
     → IsWalk G u v walk → HasMatchingWalk H u v walk
 alike_walk G H s u v walk w =
     let r = replaced G.arcs H.arcs (record { at = s.bundles }) u v walk w.arcs w.leads in
@@ -142,12 +142,12 @@ module _ (u v : ℤ) (G H : Graph LengthArc) (there : Covers u v G H) (back : Co
   pub covered_distances : IsDistance G u v d ↔ IsDistance H u v d
   covered_distances = (distance_there u v G H there back d, distance_there u v H G back there d)
 
-same_covers : (G H : Graph LengthArc) → SameGraph lengths G H → (u v : ℤ) → Covers u v G H
+same_covers : (G H : Graph LengthArc) → SameGraph lengths.Same G H → (u v : ℤ) → Covers u v G H
 same_covers G H s u v = record {
   at = λ walk w. (let a = alike_walk G H s u v walk w in record { walk = a.other; is = a.is; within = a.length });
 }
 
-module _ (G H : Graph LengthArc) (s : SameGraph lengths G H) (u v : ℤ) where
+module _ (G H : Graph LengthArc) (s : SameGraph lengths.Same G H) (u v : ℤ) where
   back : Covers u v H G
   back = same_covers H G (graph_sym lengths length_meaning G H s) u v
 

@@ -3,7 +3,8 @@ ghost use Rattle.std.specs.Prelude.{◌≡◌, ◌↔◌, ℤ, List, Bool};
 ghost use Rattle.dn_arc.specs.declared.arc.LengthArc.{LengthArc};
 ghost use Rattle.dn_arc.specs.declared.arc.CapArc.{CapArc};
 ghost use Rattle.dn_arc.specs.declared.arc.CostArc.{CostArc};
-ghost use Rattle.dn_arc.specs.Kinds.{lengths, capacities, costs};
+ghost use Rattle.dn_arc.specs.Kinds.{lengths, capacities};
+ghost use Rattle.dn_arc.specs.Meanings.{SameLength, SameTotal, SameCurve};
 ghost use Rattle.dn_instance.specs.Instances.{Graph};
 ghost use Rattle.dn_instance.specs.Validity.{IsValidGraph};
 ghost use Rattle.dn_instance.specs.Sameness.{SameGraph};
@@ -18,13 +19,13 @@ ghost use Rattle.dn_answers.specs.Choices.{only, HasNoLoop};
 pub fn exactly()
     ensures lengths { (G H : Graph LengthArc) → IsValidGraph lengths G → IsValidGraph lengths H → G.nodes ≡ H.nodes
         → HasNoLoop G → HasNoLoop H
-        → SameGraph lengths G H ↔ ((chosen : ℤ × ℤ → Bool) (u v d : ℤ)
+        → SameGraph SameLength G H ↔ ((chosen : ℤ × ℤ → Bool) (u v d : ℤ)
         → IsDistance (only chosen G) u v d ↔ IsDistance (only chosen H) u v d) }
     ensures capacities { (G H : Graph CapArc) → IsValidGraph capacities G → IsValidGraph capacities H
         → G.nodes ≡ H.nodes → HasNoLoop G → HasNoLoop H
-        → SameGraph capacities G H ↔ ((chosen : ℤ × ℤ → Bool) (source sink x : ℤ)
+        → SameGraph SameTotal G H ↔ ((chosen : ℤ × ℤ → Bool) (source sink x : ℤ)
         → IsGreatestValue source sink (only chosen G) x ↔ IsGreatestValue source sink (only chosen H) x) }
     ensures costs { (G H : Graph CostArc) → G.nodes ≡ H.nodes → HasNoLoop G → HasNoLoop H
-        → SameGraph costs G H ↔ ((chosen : ℤ × ℤ → Bool) (supplies : List (ℤ × ℤ)) (k : ℤ)
+        → SameGraph SameCurve G H ↔ ((chosen : ℤ × ℤ → Bool) (supplies : List (ℤ × ℤ)) (k : ℤ)
         → IsLeastCost supplies (only chosen G) k ↔ IsLeastCost supplies (only chosen H) k) }
 {}

@@ -1,5 +1,5 @@
 -- The laws of `min` arcs as a kind. Their meaning determines their canonical arcs in each form.
-use Rattle.std.proofs.Common.{◌≡◌, ◌⊎◌, ◌-◌, ◌^◌, ℤ, pos, ◌+ℤ◌, ◌*ℤ◌, ◌<ℤ◌, List, [], ◌∷◌, ◌++◌, Option, Some, None, refl, sym, ap, subst, arith, ◌∙◌}
+use Rattle.std.proofs.Common.{◌≡◌, ◌⊎◌, ◌-◌, ◌^◌, ℤ, pos, ◌+ℤ◌, ◌*ℤ◌, ◌<ℤ◌, List, [], ◌∷◌, ◌++◌, Option, Some, None, refl, ap, subst, arith, ◌∙◌}
 use Rattle.std.proofs.lemmas.Int.{ints, by_lt_z}
 use Rattle.std.specs.List.{AllByRecursion}
 use Rattle.dn_arc.specs.declared.arc.CostArc.{CostArc}
@@ -8,7 +8,8 @@ use Rattle.dn_arc.specs.declared.arc.Form.TheVariants.{One, Two}
 use Rattle.dn_arc.specs.declared.difference.Gap.{Gap}
 use Rattle.dn_arc.specs.declared.difference.How.{How}
 use Rattle.dn_arc.specs.declared.difference.How.TheVariants.{Costs}
-use Rattle.dn_arc.specs.Entries.{SpreadsForced, cost_sizes}
+use Rattle.dn_arc.specs.Entries.{SpreadsForced}
+use Rattle.dn_arc.specs.State.Sizes.{cost_sizes}
 use Rattle.dn_arc.specs.Fillings.{forced_units}
 use Rattle.dn_arc.specs.Kinds.{costs}
 use Rattle.dn_arc.specs.State.Bundles.{AreDifferences, AreSizes, IsKind, IsDetermined}
@@ -23,13 +24,12 @@ use Rattle.dn_arc.proofs.DifferencesLaws.{cost_of_one, cost_of_same, curves_diff
 use Rattle.dn_arc.proofs.CanonsLaws.{same_canon, entries_same, no_curve}
 use Rattle.dn_arc.proofs.SoundLaws.{caps_some}
 
-abbrev all_numbers : Option CostArc → List ℤ
-all_numbers None = []
-all_numbers (Some a) = a.low ∷ a.cap ∷ a.cost ∷ []
+abbrev arc_of : List ℤ → Option CostArc
+arc_of (l ∷ c ∷ k ∷ []) = Some (record { low = l; cap = c; cost = k })
+arc_of _ = None
 
-numbers_of : (ns : List ℤ) (a : CostArc) → costs.arc_of ns ≡ Some a → costs.numbers a ≡ ns
-numbers_of (l ∷ c ∷ k ∷ []) a e = ap all_numbers (sym e)
-numbers_of ns a e = cc
+one_arc : (a b : CostArc) → costs.numbers a ≡ costs.numbers b → a ≡ b
+one_arc a b e = let s : Some a ≡ Some b = ap arc_of e in cc
 
 cap-append : (xs ys : List CostArc) → costs.capacity (xs ++ ys) ≡ costs.capacity xs +ℤ costs.capacity ys
 cap-append [] ys = omega (arith, ints)
@@ -109,8 +109,7 @@ same_spreads xs ys a h g s m =
 pub cost_kind : IsKind costs
 cost_kind = record {
   meaning = curve_meaning;
-  arc_of_numbers = λ a. refl;
-  numbers_of_arc = numbers_of;
+  one_arc = one_arc;
   capacity_append = cap-append;
   capacity_some = caps_some;
   canon_arcs = canon_arcs;

@@ -1,6 +1,6 @@
 -- The laws of `sp` arcs as a kind. Their meaning determines canonical arcs, and the arcs listed for a least length are
 -- canonical and fit 64 bits if the length does.
-use Rattle.std.proofs.Common.{◌≡◌, ℤ, List, [], ◌∷◌, Option, Some, None, refl, FitsSigned, w64, ap, arith, sym, ◌∙◌}
+use Rattle.std.proofs.Common.{◌≡◌, ℤ, List, [], ◌∷◌, Option, Some, None, refl, FitsSigned, w64, ap, arith, ◌∙◌}
 use Rattle.std.proofs.lemmas.Int.{ints}
 use Rattle.std.specs.List.{AllByRecursion}
 use Rattle.dn_arc.specs.declared.arc.LengthArc.{LengthArc}
@@ -11,7 +11,8 @@ use Rattle.dn_arc.specs.State.Bundles.{AreDifferences, AreSizes, IsKind, IsDeter
 use Rattle.dn_arc.specs.Meanings.{SameLength}
 use Rattle.dn_arc.specs.Canonical.{AreCanonLengths}
 use Rattle.dn_arc.specs.Differences.{LengthsDiffer}
-use Rattle.dn_arc.specs.Entries.{length_entries, length_sizes}
+use Rattle.dn_arc.specs.Entries.{length_entries}
+use Rattle.dn_arc.specs.State.Sizes.{length_sizes}
 use Rattle.dn_arc.specs.State.SingleArcs.{length_listed}
 use Rattle.dn_arc.proofs.LengthsLaws.{length_meaning, lengths_determined, lengths_differ, length_of_one, length_of_same, first_length}
 
@@ -19,13 +20,12 @@ any_arcs : (xs : List LengthArc) → AllByRecursion (λ (a : LengthArc). Unit {0
 any_arcs [] = tt
 any_arcs (a ∷ rest) = (tt, any_arcs rest)
 
-abbrev all_numbers : Option LengthArc → List ℤ
-all_numbers None = []
-all_numbers (Some a) = a.length ∷ []
+abbrev arc_of : List ℤ → Option LengthArc
+arc_of (w ∷ []) = Some (record { length = w })
+arc_of _ = None
 
-numbers_of : (ns : List ℤ) (a : LengthArc) → lengths.arc_of ns ≡ Some a → lengths.numbers a ≡ ns
-numbers_of (w ∷ []) a e = ap all_numbers (sym e)
-numbers_of ns a e = cc
+one_arc : (a b : LengthArc) → lengths.numbers a ≡ lengths.numbers b → a ≡ b
+one_arc a b e = let s : Some a ≡ Some b = ap arc_of e in cc
 
 same_entries : (xs ys : List LengthArc) → SameLength xs ys → length_entries xs ≡ length_entries ys
 same_entries [] [] s = refl
@@ -53,8 +53,7 @@ same_differ xs xs' ys ys' how s t d = d
 pub length_kind : IsKind lengths
 length_kind = record {
   meaning = length_meaning;
-  arc_of_numbers = λ a. refl;
-  numbers_of_arc = numbers_of;
+  one_arc = one_arc;
   capacity_append = λ xs ys. refl;
   capacity_some = λ xs h. omega (arith, ints);
   canon_arcs = λ form xs c. any_arcs xs;

@@ -11,7 +11,8 @@ use Rattle.dn_arc.specs.declared.difference.How.TheVariants.{Totals}
 use Rattle.dn_arc.specs.Kinds.{capacities}
 use Rattle.dn_arc.specs.State.Bundles.{AreDifferences, AreSizes, IsKind, IsDetermined, NumbersFit}
 use Rattle.dn_arc.specs.Capacities.{total_cap}
-use Rattle.dn_arc.specs.Entries.{cap_entries, cap_sizes}
+use Rattle.dn_arc.specs.Entries.{cap_entries}
+use Rattle.dn_arc.specs.State.Sizes.{cap_sizes}
 use Rattle.dn_arc.specs.State.SingleArcs.{cap_listed}
 use Rattle.dn_arc.specs.Meanings.{SameTotal}
 use Rattle.dn_arc.specs.Canonical.{IsCapArc, AreCanonCaps}
@@ -19,13 +20,12 @@ use Rattle.dn_arc.specs.Differences.{TotalsDiffer}
 use Rattle.dn_arc.proofs.TotalsLaws.{total_meaning, totals_determined, totals_differ}
 use Rattle.dn_arc.proofs.MeansLaws.{fits_some}
 
-abbrev all_numbers : Option CapArc → List ℤ
-all_numbers None = []
-all_numbers (Some a) = a.cap ∷ []
+abbrev arc_of : List ℤ → Option CapArc
+arc_of (c ∷ []) = Some (record { cap = c })
+arc_of _ = None
 
-numbers_of : (ns : List ℤ) (a : CapArc) → capacities.arc_of ns ≡ Some a → capacities.numbers a ≡ ns
-numbers_of (c ∷ []) a e = ap all_numbers (sym e)
-numbers_of ns a e = cc
+one_arc : (a b : CapArc) → capacities.numbers a ≡ capacities.numbers b → a ≡ b
+one_arc a b e = let s : Some a ≡ Some b = ap arc_of e in cc
 
 pub total-append : (xs ys : List CapArc) → total_cap (xs ++ ys) ≡ total_cap xs +ℤ total_cap ys
 total-append [] ys = omega (arith, ints)
@@ -60,8 +60,7 @@ same_differ xs xs' ys ys' how s t d = d
 pub total_kind : IsKind capacities
 total_kind = record {
   meaning = total_meaning;
-  arc_of_numbers = λ a. refl;
-  numbers_of_arc = numbers_of;
+  one_arc = one_arc;
   capacity_append = total-append;
   capacity_some = total_some;
   canon_arcs = λ form xs c. canon_arcs xs c;

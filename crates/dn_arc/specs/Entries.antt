@@ -42,22 +42,3 @@ pub record SpreadsForced (arcs : List CostArc) (a : CostArc) : Type 0 where
   pub adds : pos 0 <ℤ a.low
   pub other : (forced_cost arcs ≡ forced_units arcs *ℤ a.cost → ⊥)
       ⊎ (pos (2 ^ 32 - 1) <ℤ (forced_units arcs +ℤ a.low))
-
--- what must be kept of the arcs of one ordered pair
-pub record ArcSizes (Arc : Type 0) : Type 1 where
-  -- how many entries the arcs make
-  pub entries : List Arc → ℕ
-  -- one more arc needs memory, even if it makes no entry
-  pub Spreads : List Arc → Arc → Type 0
-
--- `sp`
-abbrev pub length_sizes : ArcSizes LengthArc
-length_sizes = record { entries = length_entries; Spreads = λ arcs a. ⊥ }
-
--- `max`
-abbrev pub cap_sizes : ArcSizes CapArc
-cap_sizes = record { entries = cap_entries; Spreads = λ arcs a. ⊥ }
-
--- `min`
-abbrev pub cost_sizes : ArcSizes CostArc
-cost_sizes = record { entries = cost_entries; Spreads = SpreadsForced }

@@ -1,6 +1,6 @@
 -- What the three kinds of graphs have in common: an arc is a list of numbers, and parallel arcs have a meaning together
 -- (this project's profile).
-use Rattle.std.specs.Prelude.{ℤ, pos, List, [], ◌∷◌, map, Option, Some, None}
+use Rattle.std.specs.Prelude.{ℤ, pos, List, [], ◌∷◌, map}
 use Rattle.dn_arc.specs.Capacities.{total_cap}
 use Rattle.dn_arc.specs.Splits.{total}
 use Rattle.dn_arc.specs.Meanings.{SameLength, SameTotal, SameCurve}
@@ -14,8 +14,6 @@ use Rattle.dn_arc.specs.declared.arc.Form.{Form}
 pub record ArcKind (Arc : Type 0) : Type 1 where
   -- the numbers of an arc in the order of its line, after SRC and DST
   pub numbers : Arc → List ℤ
-  -- the arc with these numbers, if there is one
-  pub arc_of : List ℤ → Option Arc
   -- a problem may have this arc
   pub IsArc : Arc → Type 0
   -- the sum of the CAPs, or 0 if the arcs of this kind have no CAP
@@ -25,26 +23,10 @@ pub record ArcKind (Arc : Type 0) : Type 1 where
   -- the arcs are the canonical arcs of one pair in this form
   pub IsCanon : Form → List Arc → Type 0
 
--- an `sp` arc has one number, LENGTH
-abbrev pub length_arc : List ℤ → Option LengthArc
-length_arc (w ∷ []) = Some (record { length = w })
-length_arc _ = None
-
--- a `max` arc has one number, CAP
-abbrev pub cap_arc : List ℤ → Option CapArc
-cap_arc (c ∷ []) = Some (record { cap = c })
-cap_arc _ = None
-
--- a `min` arc has three numbers, LOW, CAP and COST
-abbrev pub cost_arc : List ℤ → Option CostArc
-cost_arc (l ∷ c ∷ k ∷ []) = Some (record { low = l; cap = c; cost = k })
-cost_arc _ = None
-
 -- the arcs of `sp` graphs, which have lengths
 abbrev pub lengths : ArcKind LengthArc
 lengths = record {
   numbers = λ a. a.length ∷ [];
-  arc_of = length_arc;
   IsArc = λ a. Unit {0};
   capacity = λ arcs. pos 0;
   Same = SameLength;
@@ -55,7 +37,6 @@ lengths = record {
 abbrev pub capacities : ArcKind CapArc
 capacities = record {
   numbers = λ a. a.cap ∷ [];
-  arc_of = cap_arc;
   IsArc = IsCapArc;
   capacity = total_cap;
   Same = SameTotal;
@@ -66,7 +47,6 @@ capacities = record {
 abbrev pub costs : ArcKind CostArc
 costs = record {
   numbers = λ a. a.low ∷ a.cap ∷ a.cost ∷ [];
-  arc_of = cost_arc;
   IsArc = IsCostArc;
   capacity = λ arcs. total (map (λ a. a.cap) arcs);
   Same = SameCurve;

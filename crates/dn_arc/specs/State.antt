@@ -1,5 +1,6 @@
 pub mod SingleArcs
 pub mod Equivalences
+pub mod Sizes
 pub mod CanonArcs
 pub mod FillCosts
 pub mod Bundles

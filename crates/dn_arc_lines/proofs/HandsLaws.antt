@@ -1,5 +1,5 @@
 -- What a reader of arc lines hands out, step by step.
-use Rattle.std.proofs.Common.{◌≡◌, ℕ, List, [], ◌++◌, take, sym, ap, subst, ◌∙◌, append_assoc}
+use Rattle.std.proofs.Common.{◌≡◌, ◌≤◌, ◌+◌, ◌-◌, ℕ, List, [], ◌++◌, take, drop, drop-drop, sym, ap, subst, ◌∙◌, append_assoc, arith}
 use Rattle.dn_line.specs.Pieces.{parts, is_line_feed}
 use Rattle.dn_line.proofs.PartsLaws.{Parts}
 use Rattle.dn_instance.specs.Readers.{ended}
@@ -9,6 +9,12 @@ use Rattle.dn_arc_lines.specs.State.ArcLines.{arc_lines_from}
 use Rattle.dn_arc_lines.specs.State.Reading.{ArcLinesAt, Hands, HasLines, TakesLines}
 use Rattle.dn_arc_lines.specs.declared.arc_line.ArcLine.{ArcLine}
 use Rattle.dn_arc_lines.specs.declared.arc_lines.ArcLines.{ArcLines}
+
+-- what follows the first n elements is the same in both lists, so what follows more elements is, too
+pub rest_later : {A : Type 0} (n m : ℕ) (xs ys : List A) → n ≤ m → drop n xs ≡ drop n ys → drop m xs ≡ drop m ys
+rest_later n m xs ys le same =
+    let e : m ≡ n + (m - n) = omega (arith, le) in
+    rw (e, ← drop-drop (m - n) n xs, ← drop-drop (m - n) n ys) (ap (drop (m - n)) same)
 
 -- one step after another
 pub hands_on : (r r' : ArcLines) (t u v : List ℕ) (front mid out : List ArcLine) → Hands r t u front mid
@@ -31,6 +37,7 @@ hands_rows old new t piece used front out h none same f =
       stands = record {
         read = subst (HasLines new) lines f.adds.read;
         line = rw same (subst (HasOpen old.line) (none ∙ sym (ap (λ (p : Parts). p.1) all)) h.line);
+        stops = λ code is. ap (λ (p : Parts). p.1) all;
       };
       rows = f.adds.rows;
       out_is = f.adds.out_is;

@@ -1,5 +1,5 @@
 // An arc line of a text.
-ghost use Rattle.std.specs.Prelude.{◌≡◌, ◌≤◌, ◌+◌, ◌^◌, ◌++◌, length, take};
+ghost use Rattle.std.specs.Prelude.{◌≡◌, ◌≤◌, ◌+◌, ◌^◌, ◌++◌, length, take, drop};
 ghost use Rattle.std.specs.Option.{option_or};
 ghost use Rattle.dn_arc_lines.specs.State.ArcLines.{arc_line_in, kind_in};
 ghost use Rattle.dn_arc_lines.specs.State.Reading.{arc_line_of_row, numbered};
@@ -95,7 +95,8 @@ fn arc_line_of_row(number: u64, row: &Row) -> ArcLine
 pub(crate) fn put_rows(rows: &[RowLine], number: u64, out: &mut [ArcLine], at: usize)
     requires room { at + length rows.now ≤ length out.old }
     requires few { number + length rows.now ≤ 2 ^ 63 }
-    ensures { take (at + length rows.now) out.new ≡ take at out.old ++ numbered number rows.now }
+    ensures rows { take (at + length rows.now) out.new ≡ take at out.old ++ numbered number rows.now }
+    ensures rest { drop (at + length rows.now) out.new ≡ drop (at + length rows.now) out.old }
 {
     let all = rows.len();
     for i in 0..all {

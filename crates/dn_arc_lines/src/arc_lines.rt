@@ -1,5 +1,5 @@
 // Reads the arc lines of a text that arrives in any pieces.
-ghost use Rattle.std.specs.Prelude.{◌≡◌, ◌⊎◌, ◌≤◌, ◌<◌, ◌+◌, ℕ, List, [], ◌∷◌, ◌++◌, length, take, IfSome, None, Some};
+ghost use Rattle.std.specs.Prelude.{◌≡◌, ◌⊎◌, ◌≤◌, ◌<◌, ◌+◌, ℕ, List, [], ◌∷◌, ◌++◌, length, take, drop, IfSome, None, Some};
 ghost use Rattle.dn_line.specs.declared.code.Code.{Code};
 ghost use Rattle.dn_line.specs.State.LineStates.{LineSoFar, LineReaderAt};
 ghost use Rattle.dn_arc_lines.specs.State.ArcLines.{arc_lines, own_fault};
@@ -66,6 +66,7 @@ impl ArcLines {
         requires fine { fault_of self.old ≡ None }
         ensures taken { (ls : List (List ℕ)) (l : LineSoFar) → HasLines self.old ls → LineReaderAt self.old.line l
             → Adds self.new ls (l.bytes ∷ []) (take at out.old) (take result out.new) }
+        ensures rest { drop result out.new ≡ drop result out.old }
         ensures line { self.new.line ≡ self.old.line }
         ensures more { at ≤ result }
         ensures fits { result ≤ length out.new }
@@ -100,6 +101,7 @@ impl ArcLines {
         requires fine { fault_of self.old ≡ None }
         ensures hands { (t : List ℕ) → ArcLinesAt self.old t → Hands self.new t (t ++ take result.used piece.now)
             (take at out.old) (take result.count out.new) }
+        ensures rest { drop result.count out.new ≡ drop result.count out.old }
         ensures some { 0 < result.used }
         ensures bound { result.used ≤ length piece.now }
         ensures more { at ≤ result.count }
@@ -135,6 +137,7 @@ impl ArcLines {
         requires fine { fault_of self.old ≡ None }
         ensures taken { IfSome result (λ g. (ls : List (List ℕ)) → HasLines self.old ls → TakesLines self.new ls
             (take g.used piece.now) (take at out.old) (take g.count out.new)) }
+        ensures rest { IfSome result (λ g. drop g.count out.new ≡ drop g.count out.old) }
         ensures bound { IfSome result (λ g. g.used ≤ length piece.now) }
         ensures some { IfSome result (λ g. 0 < g.used) }
         ensures more { IfSome result (λ g. at ≤ g.count) }
@@ -177,6 +180,7 @@ impl ArcLines {
         requires fine { fault_of self.old ≡ None }
         ensures hands { (t : List ℕ) → ArcLinesAt self.old t → Hands self.new t (t ++ take result.used piece.now)
             (take at out.old) (take result.count out.new) }
+        ensures rest { drop result.count out.new ≡ drop result.count out.old }
         ensures some { 0 < result.used }
         ensures bound { result.used ≤ length piece.now }
         ensures more { at ≤ result.count }
@@ -192,11 +196,12 @@ impl ArcLines {
 
     /// Takes the next bytes of the text, and writes the arc lines among the lines that these end. Takes all bytes,
     /// unless it fills `out` before, or a line has a fault by itself: then it takes the bytes up to the end of the last
-    /// line that it took. Once a line had a fault, it takes no more bytes.
+    /// line that it took. Once a line had a fault, it takes no more bytes. What follows the arc lines in `out` stays.
     pub fn feed(&mut self, piece: &[u8], out: &mut [ArcLine]) -> Given
         ensures stands { (t : List ℕ) → ArcLinesAt self.old t → ArcLinesAt self.new (t ++ take result.used piece.now) }
         ensures rows { (t : List ℕ) → ArcLinesAt self.old t
             → arc_lines (t ++ take result.used piece.now) ≡ arc_lines t ++ take result.count out.new }
+        ensures rest { drop result.count out.new ≡ drop result.count out.old }
         ensures again { (code : Code) → fault_of self.old ≡ Some code
             → (result.used ≡ 0) × (result.count ≡ 0) × (self.new ≡ self.old) }
         ensures all { fault_of self.new ≡ None → (result.used ≡ length piece.now) ⊎ (result.count ≡ length out.new) }

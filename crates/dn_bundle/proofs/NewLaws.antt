@@ -5,7 +5,8 @@ use Rattle.std.proofs.lemmas.Int.{ints, by_lt_z}
 use Rattle.dn_arc.specs.declared.arc.CostArc.{CostArc}
 use Rattle.dn_arc.specs.declared.arc.Form.TheVariants.{One}
 use Rattle.dn_arc.specs.Canonical.{IsCostArc}
-use Rattle.dn_arc.specs.Entries.{cost_entries, cost_sizes}
+use Rattle.dn_arc.specs.Entries.{cost_entries}
+use Rattle.dn_arc.specs.State.Sizes.{cost_sizes}
 use Rattle.dn_arc.specs.State.CanonArcs.{NeedsMore}
 use Rattle.dn_arc.specs.State.Steps.{steps_of, add_step, has_step}
 use Rattle.dn_arc.specs.State.CurveListed.{listed, IsSound}

@@ -11,7 +11,7 @@ ghost use Rattle.dn_arc.specs.State.CurveListed.{listed, fixed_arcs, step_arc, f
 ghost use Rattle.dn_bundle.specs.State.Gaps.{IsGapOf};
 ghost use Rattle.dn_bundle.specs.State.Shapes.{shape_numbers, AreSound, NeedsRoom};
 ghost use Rattle.dn_arc.specs.Differences.{CurvesDiffer};
-ghost use Rattle.dn_arc.specs.Entries.{cost_sizes};
+ghost use Rattle.dn_arc.specs.State.Sizes.{cost_sizes};
 ghost use Rattle.dn_arc.proofs.SoundLaws.{IsSound-prop, sound_canonical, sound_same, sound_fit};
 ghost use Rattle.dn_arc.proofs.CostKindLaws.{cost_kind, cost_sized, cost_differs};
 ghost use Rattle.dn_arc.specs.declared.arc.Form.{Form};

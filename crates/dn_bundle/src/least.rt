@@ -6,7 +6,7 @@ ghost use Rattle.dn_arc.specs.Kinds.{lengths};
 ghost use Rattle.dn_arc.specs.Lengths.{LeastLength};
 ghost use Rattle.dn_arc.specs.State.SingleArcs.{length_listed};
 ghost use Rattle.dn_arc.specs.Differences.{LengthsDiffer};
-ghost use Rattle.dn_arc.specs.Entries.{length_sizes};
+ghost use Rattle.dn_arc.specs.State.Sizes.{length_sizes};
 ghost use Rattle.dn_arc.proofs.LengthKindLaws.{length_kind, length_sized, length_differs, length_canonical, length_fit};
 
 use dn_arc::{Form, How, LengthArc};

@@ -5,7 +5,7 @@ ghost use Rattle.dn_arc.specs.Kinds.{capacities};
 ghost use Rattle.dn_arc.specs.Capacities.{total_cap};
 ghost use Rattle.dn_arc.specs.State.SingleArcs.{cap_listed};
 ghost use Rattle.dn_arc.specs.Differences.{TotalsDiffer};
-ghost use Rattle.dn_arc.specs.Entries.{cap_sizes};
+ghost use Rattle.dn_arc.specs.State.Sizes.{cap_sizes};
 ghost use Rattle.dn_arc.proofs.TotalKindLaws.{total_kind, total_sized, total_differs, total_canonical, total_fit};
 
 use dn_arc::{CapArc, Form, How};

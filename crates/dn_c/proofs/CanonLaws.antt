@@ -1,5 +1,6 @@
 -- Lemmas that calls get the canonical instance out of a parsed instance.
-use Rattle.std.proofs.Common.{◌≡◌, ◌<◌, ℕ, ℤ, zero, suc, List, [], ◌∷◌, ◌++◌, length, map, take, drop, flat_map, append-nil, Ok, refl, sym, ap, ◌∙◌, arith}
+use Rattle.std.proofs.Common.{◌≡◌, ◌<◌, ℕ, ℤ, zero, suc, List, [], ◌∷◌, ◌++◌, length, map, take, drop, flat_map, append-nil, None, Some, Ok, refl, sym, ap, ◌∙◌, arith}
+use Rattle.std.proofs.lemmas.List.{length-map}
 use Rattle.dn_arc.specs.Kinds.{costs, capacities, lengths}
 use Rattle.dn_arc.specs.declared.arc.Form.{Form}
 use Rattle.dn_arc.proofs.CostKindLaws.{cost_kind}
@@ -19,7 +20,8 @@ use Rattle.dn_canon.specs.State.ListedArcs.{listed_arcs, listed_graph}
 use Rattle.dn_canon.proofs.ListedLaws.{listed_canon, min_canon, max_canon}
 use Rattle.dn_c.specs.State.CanonCopies.{Call, Walks, copied, first_place, GivesOut}
 use Rattle.dn_c.specs.State.Items.{flow_item, point_item, id_item, pair_item}
-use Rattle.dn_c.specs.State.Outputs.{CopiesNone}
+use Rattle.dn_c.specs.State.Outputs.{CopiesNone, CountsListed}
+use Rattle.dn_c.specs.State.Statuses.{wrong_count}
 use Rattle.dn_c.specs.State.Places.{cost_at, cap_at, length_at}
 use Rattle.dn_c.specs.State.Rows.{rows_by}
 use Rattle.dn_c.specs.State.Walks.{CopiesFrom, IsLeftAfter}
@@ -85,6 +87,18 @@ none_copied place (call ∷ next ∷ rest) w =
     ap (λ (r : Count). take r.count call.new ++ flat_map copied (next ∷ rest)) w.0.0
     ∙ none_copied call.place (next ∷ rest) w.1
 
+-- the number of listed arcs is that of their rows
+counted : {B A : Type 0} (numbers : A → List ℤ) (lists : B → List A) (table : Bundles B) (result : Count)
+    → CountsListed lists table result → result.code ≡ 0
+    → result.count ≡ length (rows_by numbers (listed_arcs lists table))
+counted numbers lists table result (Some n, is, told) fine =
+    ap (λ (r : Count). r.count) told ∙ is ∙ sym (length-map (listed_arcs lists table) _)
+counted numbers lists table result (None, is, told) fine = absurd (omega (arith, ap (λ (r : Count). r.code) told, fine))
+
+-- a companion has no arcs to count
+none_counted : (result : Count) → result ≡ wrong_count → result.code ≡ 0 → result.count ≡ 0
+none_counted result told fine = absurd (omega (arith, ap (λ (r : Count). r.code) told, fine))
+
 module _ (form : Form) where
   -- the canonical instance of I is what calls get out of the contents
   abbrev GivesCanon : Contents → Instance → Type 0
@@ -101,6 +115,7 @@ module _ (form : Form) where
     record {
       first = begins costs.numbers (curve_arcs form) cost_at table;
       walk = walk_first costs.numbers (curve_arcs form) cost_at table;
+      count = counted costs.numbers (curve_arcs form) table;
       items = ap (map flow_item) s.0;
     },
   )
@@ -112,6 +127,7 @@ module _ (form : Form) where
     record {
       first = begins capacities.numbers total_arcs cap_at table;
       walk = walk_first capacities.numbers total_arcs cap_at table;
+      count = counted capacities.numbers total_arcs table;
       items = rw (s.0, s.1) refl;
     },
   )
@@ -124,23 +140,24 @@ module _ (form : Form) where
         record {
           first = begins lengths.numbers least_arcs length_at table;
           walk = walk_first lengths.numbers least_arcs length_at table;
+          count = counted lengths.numbers least_arcs table;
           items = refl;
         },
       )
   by_contents (OfSs ids) (Sources items) valid s = (
     Sources items,
     record { valid = valid; canonical = tt; same = refl_of (Sources items) },
-    record { first = refl; walk = none_copied first_place; items = ap (map id_item) s },
+    record { first = refl; walk = none_copied first_place; count = none_counted; items = ap (map id_item) s },
   )
   by_contents (OfP2p pairs) (Queries items) valid s = (
     Queries items,
     record { valid = valid; canonical = tt; same = refl_of (Queries items) },
-    record { first = refl; walk = none_copied first_place; items = ap (map pair_item) s },
+    record { first = refl; walk = none_copied first_place; count = none_counted; items = ap (map pair_item) s },
   )
   by_contents (OfCo points) (Coordinates items) valid s = (
     Coordinates items,
     record { valid = valid; canonical = tt; same = refl_of (Coordinates items) },
-    record { first = refl; walk = none_copied first_place; items = ap (map point_item) s },
+    record { first = refl; walk = none_copied first_place; count = none_counted; items = ap (map point_item) s },
   )
   by_contents (OfMin flows table) _ valid s = absurd s
   by_contents (OfMax source sink table) _ valid s = absurd s

@@ -37,6 +37,11 @@ not_stopped : (used count : ℕ) (stop : Option (ℕ × Code)) → (told used co
 not_stopped used count None h = refl
 not_stopped used count (Some f) h = absurd (no_zero f.1 h)
 
+-- the count that a call tells
+pub told_count : (used count : ℕ) (stop : Option (ℕ × Code)) → (told used count stop).count ≡ count
+told_count used count None = refl
+told_count used count (Some f) = refl
+
 pub gives : (r r' : ArcLines) (piece : List ℕ) (out : List ArcLine) (used count : ℕ) (stop : Option (ℕ × Code))
     (result : Lines) → result ≡ told used count stop
     → ((t : List ℕ) → ArcLinesAt r t → ArcLinesAt r' (t ++ take used piece))

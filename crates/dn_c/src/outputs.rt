@@ -97,6 +97,7 @@ pub fn text(work: &Work, from: usize, out: &mut [u8]) -> Count
 // Copies the bytes from the one at `from` as far as there is room.
 fn copy_from(bytes: &[u8], from: usize, out: &mut [u8]) -> usize
     ensures copies { take result out.new ≡ take (length out.old) (drop from bytes.now) }
+    ensures rest { drop result out.new ≡ drop result out.old }
     ensures fits { result ≤ length out.new }
 {
     if bytes.len() < from {

@@ -13,7 +13,7 @@ use Rattle.dn_line.specs.declared.word.Keyword.TheVariants as Key
 use Rattle.dn_line.specs.Words.{said}
 use Rattle.dn_line.specs.State.Spelling.{Spells}
 use Rattle.dn_line.specs.Faults.{first_fault}
-use Rattle.dn_line.specs.Number.{number_read}
+use Rattle.dn_num.specs.Number.{number_read}
 use Rattle.std.specs.Fmt.{signed_decimal}
 use Rattle.dn_arc.specs.Kinds.{capacities, costs}
 use Rattle.dn_instance.specs.Instances.{Graph, Instance, MinCostFlow, MaxFlow, ShortestPaths, Sources, Queries, Coordinates, size_of}

@@ -7,7 +7,7 @@ use Rattle.std.specs.List.{AllByRecursion, filter_map}
 use Rattle.std.specs.Ordering.{int_eq}
 use Rattle.std.specs.Option.{option_map}
 use Rattle.dn_num.proofs.ShortestLaws.{decimal_reads}
-use Rattle.dn_line.specs.Number.{number_read}
+use Rattle.dn_num.specs.Number.{number_read}
 use Rattle.dn_line.specs.Names.{kind_name}
 use Rattle.dn_line.specs.Reading.{number_or_zero}
 use Rattle.dn_line.specs.declared.kind.Kind.{Kind}

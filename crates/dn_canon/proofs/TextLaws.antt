@@ -25,7 +25,7 @@ use Rattle.dn_canon.proofs.PrintLaws.{print_one, print_reads}
 
 -- canonical graphs that mean the same are the same
 graph_one : {Arc : Type 0} (kind : ArcKind Arc) → IsDetermined kind → (form : Form) (G H : Graph Arc)
-    → IsCanonGraph kind form G → IsCanonGraph kind form H → SameGraph kind G H → G ≡ H
+    → IsCanonGraph kind form G → IsCanonGraph kind form H → SameGraph kind.Same G H → G ≡ H
 graph_one kind determined form G H c d s =
     let arcs =
     order_one G.arcs H.arcs c.in_order d.in_order

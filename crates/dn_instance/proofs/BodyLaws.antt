@@ -9,7 +9,7 @@ use Rattle.dn_line.specs.declared.kind.Kind.TheVariants as Kinds
 use Rattle.dn_line.specs.declared.line.Line.{Line}
 use Rattle.dn_line.specs.declared.line.Line.TheVariants as Item
 use Rattle.dn_line.specs.declared.row.Row.{Row}
-use Rattle.dn_arc.specs.Entries.{ArcSizes, cap_sizes, cost_sizes, length_sizes}
+use Rattle.dn_arc.specs.State.Sizes.{cap_sizes, cost_sizes, length_sizes}
 use Rattle.dn_arc.specs.Kinds.{lengths, capacities, costs, ArcKind}
 use Rattle.dn_arc.specs.State.Bundles.{BundleFacts, meant}
 use Rattle.dn_nodes.specs.State.Nodes.{Gains, Nodes, is_known}
@@ -248,12 +248,12 @@ cost_row row =
     }
 
 -- the entries of a table are those of the arcs of the items
-pub table_counted : {B Arc : Type 0} (text : Kind) (kind : ArcKind Arc) (sizes : ArcSizes Arc)
+pub table_counted : {B Arc : Type 0} (text : Kind) (kind : ArcKind Arc) (entries : List Arc → ℕ)
     (arc_in : Line → Option ((ℤ × ℤ) × Arc)) (lists : B → List Arc) (table : List ((ℤ × ℤ) × B)) (n : ℕ)
-    → ((items : List Line) → entries_by (Some text) items ≡ graph_entries sizes (arcs_of arc_in items))
+    → ((items : List Line) → entries_by (Some text) items ≡ graph_entries entries (arcs_of arc_in items))
     → ((arcs : List ((ℤ × ℤ) × Arc)) → TableLists kind lists table arcs → AreArcs kind arcs
-    → graph_entries sizes arcs < 2 ^ 64 → n ≡ graph_entries sizes arcs) → (items : List Line)
+    → graph_entries entries arcs < 2 ^ 64 → n ≡ graph_entries entries arcs) → (items : List Line)
     → TableHolds kind arc_in lists table items → entries_by (Some text) items < 2 ^ 64
     → n ≡ entries_by (Some text) items
-table_counted text kind sizes arc_in lists table n same counts items held few =
+table_counted text kind entries arc_in lists table n same counts items held few =
     counts _ held.lists_them held.are_arcs (subst (λ k. k < 2 ^ 64) (same items) few) ∙ sym (same items)

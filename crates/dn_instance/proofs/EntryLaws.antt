@@ -1,7 +1,7 @@
 -- Lemmas on the number of entries of an instance, given its size, and of the content of a parsed instance.
 use Rattle.std.proofs.Common.{◌≡◌, ◌*◌, ◌≤◌, ◌<◌, ◌^◌, ℤ, pos, FitsSigned, w64, List, [], ◌∷◌, subst, arith, ℕ, length, ap}
 use Rattle.std.specs.List.{AllByRecursion}
-use Rattle.dn_arc.specs.Entries.{ArcSizes, cap_sizes, cost_sizes, length_sizes}
+use Rattle.dn_arc.specs.Entries.{cap_entries, cost_entries, length_entries}
 use Rattle.dn_arc.specs.Kinds.{ArcKind, costs, capacities, lengths}
 use Rattle.dn_table.specs.State.Tables.{AreArcs, TableLists}
 use Rattle.dn_table.proofs.EntryLaws.{Pair, graph_few, costs_few, capacities_few, lengths_few}
@@ -25,9 +25,9 @@ placed_arcs kind nodes (a ∷ rest) h = (h.0.is_arc, placed_arcs kind nodes rest
 
 -- an instance makes at most two entries for each arc, item or point
 pub entries_few : (I : Instance) → entries_of I ≤ 2 * size_of I
-entries_few (MinCostFlow supplies graph) = graph_few cost_sizes costs_few graph.arcs
-entries_few (MaxFlow source sink graph) = graph_few cap_sizes capacities_few graph.arcs
-entries_few (ShortestPaths graph) = graph_few length_sizes lengths_few graph.arcs
+entries_few (MinCostFlow supplies graph) = graph_few cost_entries costs_few graph.arcs
+entries_few (MaxFlow source sink graph) = graph_few cap_entries capacities_few graph.arcs
+entries_few (ShortestPaths graph) = graph_few length_entries lengths_few graph.arcs
 entries_few _ = omega arith
 
 -- the number of entries fits 64 bits if the size fits 64 signed bits
@@ -39,26 +39,26 @@ entries_fit I size f e =
     grind (arith)
 
 -- n is the number of entries of the arcs that a table represents, if this is below 2^64
-abbrev Counts : {B Arc : Type 0} → ArcKind Arc → ArcSizes Arc → (B → List Arc) → Bundles B → ℕ → Type 0
-Counts {B} {Arc} kind sizes lists table n = (arcs : List ((ℤ × ℤ) × Arc)) → TableLists kind lists table arcs
-    → AreArcs kind arcs → graph_entries sizes arcs < 2 ^ 64 → n ≡ graph_entries sizes arcs
+abbrev Counts : {B Arc : Type 0} → ArcKind Arc → (List Arc → ℕ) → (B → List Arc) → Bundles B → ℕ → Type 0
+Counts {B} {Arc} kind entries lists table n = (arcs : List ((ℤ × ℤ) × Arc)) → TableLists kind lists table arcs
+    → AreArcs kind arcs → graph_entries entries arcs < 2 ^ 64 → n ≡ graph_entries entries arcs
 
 pub min_entries : (flows : List (ℤ × ℤ)) (table : Bundles CurveNumbers) (n : ℕ)
-    → Counts costs cost_sizes (λ (b : CurveNumbers). listed One b.units b.cost b.steps) table n → (I : Instance)
+    → Counts costs cost_entries (λ (b : CurveNumbers). listed One b.units b.cost b.steps) table n → (I : Instance)
     → IsValid I → Shows (OfMin flows table) I → entries_of I < 2 ^ 64 → n ≡ entries_of I
 min_entries flows table n c (MinCostFlow supplies G) v s few =
     c G.arcs s.1.lists_them (placed_arcs costs G.nodes G.arcs v.0.placed) few
 min_entries flows table n c _ v s few = absurd s
 
 pub max_entries : (source sink : ℤ) (table : Bundles Total) (n : ℕ)
-    → Counts capacities cap_sizes (λ (b : Total). cap_listed b.total) table n → (I : Instance) → IsValid I
+    → Counts capacities cap_entries (λ (b : Total). cap_listed b.total) table n → (I : Instance) → IsValid I
     → Shows (OfMax source sink table) I → entries_of I < 2 ^ 64 → n ≡ entries_of I
 max_entries source sink table n c (MaxFlow _ _ G) v s few =
     c G.arcs s.2.lists_them (placed_arcs capacities G.nodes G.arcs v.0.placed) few
 max_entries source sink table n c _ v s few = absurd s
 
 pub sp_entries : (table : Bundles Least) (n : ℕ)
-    → Counts lengths length_sizes (λ (b : Least). length_listed b.length) table n → (I : Instance) → IsValid I
+    → Counts lengths length_entries (λ (b : Least). length_listed b.length) table n → (I : Instance) → IsValid I
     → Shows (OfSp table) I → entries_of I < 2 ^ 64 → n ≡ entries_of I
 sp_entries table n c (ShortestPaths G) v s few = c G.arcs s.lists_them (placed_arcs lengths G.nodes G.arcs v.placed) few
 sp_entries table n c _ v s few = absurd s

@@ -21,14 +21,14 @@ use Rattle.dn_table.specs.State.Tables.{listed_at, TableStandsFor}
 use Rattle.dn_instance.specs.Sameness.{SameGraph, IsSame}
 
 module _ {Arc : Type 0} (kind : ArcKind Arc) (meaning : IsMeaning kind.Same) where
-  pub graph_refl : (G : Graph Arc) → SameGraph kind G G
+  pub graph_refl : (G : Graph Arc) → SameGraph kind.Same G G
   graph_refl G = record { nodes = refl; bundles = λ p. meaning.same_refl (bundle p G.arcs) }
 
-  pub graph_sym : (G H : Graph Arc) → SameGraph kind G H → SameGraph kind H G
+  pub graph_sym : (G H : Graph Arc) → SameGraph kind.Same G H → SameGraph kind.Same H G
   graph_sym G H s =
       record { nodes = sym s.nodes; bundles = λ p. meaning.same_sym (bundle p G.arcs) (bundle p H.arcs) (s.bundles p) }
 
-  pub graph_trans : (G H K : Graph Arc) → SameGraph kind G H → SameGraph kind H K → SameGraph kind G K
+  pub graph_trans : (G H K : Graph Arc) → SameGraph kind.Same G H → SameGraph kind.Same H K → SameGraph kind.Same G K
   graph_trans G H K s t = record {
     nodes = s.nodes ∙ t.nodes;
     bundles = λ p. meaning.same_trans (bundle p G.arcs) (bundle p H.arcs) (bundle p K.arcs) (s.bundles p) (t.bundles p);
@@ -62,12 +62,12 @@ module _ {Arc : Type 0} (kind : ArcKind Arc) (meaning : IsMeaning kind.Same) whe
   }
 
   pub graph_order : (nodes : ℤ) (xs ys : List ((ℤ × ℤ) × Arc)) → IsPermutation xs ys
-      → SameGraph kind (record { nodes = nodes; arcs = xs }) (record { nodes = nodes; arcs = ys })
+      → SameGraph kind.Same (record { nodes = nodes; arcs = xs }) (record { nodes = nodes; arcs = ys })
   graph_order nodes xs ys h = let s = any_order SameAt placed_meaning xs ys h in record { nodes = refl; bundles = s.at }
 
   -- graphs with the same NODES that one table represents mean the same
   table_one : {B : Type 0} (lists : B → List Arc) (table : List ((ℤ × ℤ) × B)) (G H : Graph Arc) → G.nodes ≡ H.nodes
-      → TableStandsFor kind lists table G.arcs → TableStandsFor kind lists table H.arcs → SameGraph kind G H
+      → TableStandsFor kind lists table G.arcs → TableStandsFor kind lists table H.arcs → SameGraph kind.Same G H
   table_one lists table G H n s t = record { nodes = n; bundles = at }
     where
       at : (p : ℤ × ℤ) → kind.Same (bundle p G.arcs) (bundle p H.arcs)

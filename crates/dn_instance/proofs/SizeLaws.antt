@@ -7,7 +7,7 @@ use Rattle.dn_line.specs.declared.kind.Kind.TheVariants as Kinds
 use Rattle.dn_line.specs.declared.line.Line.{Line}
 use Rattle.dn_line.specs.declared.line.Line.TheVariants as Item
 use Rattle.dn_line.specs.State.Spelling.{slots_of, kind_before}
-use Rattle.dn_arc.specs.Entries.{cap_sizes, cost_sizes, length_sizes}
+use Rattle.dn_arc.specs.Entries.{cap_entries, cost_entries, length_entries}
 use Rattle.dn_instance.specs.Instances.{Instance, nodes_of, size_of}
 use Rattle.dn_instance.specs.EntryCount.{entries_as, entries_by, entries_so_far}
 use Rattle.dn_table.proofs.EntryLaws.{graph_few, costs_few, capacities_few, lengths_few}
@@ -108,9 +108,9 @@ so_far_by None items s = omega arith
 so_far_by (Some p) items s = by_kind p.kind s
   where
     by_kind : (k : Kind) → SizedAs k p.nodes items → entries_as k items ≤ 2 * counted items
-    by_kind Kinds.Min s = omega (arith, graph_few cost_sizes costs_few (arcs_of cost_arc_in items))
-    by_kind Kinds.Max s = omega (arith, graph_few cap_sizes capacities_few (arcs_of cap_arc_in items))
-    by_kind Kinds.Sp s = omega (arith, graph_few length_sizes lengths_few (arcs_of length_arc_in items))
+    by_kind Kinds.Min s = omega (arith, graph_few cost_entries costs_few (arcs_of cost_arc_in items))
+    by_kind Kinds.Max s = omega (arith, graph_few cap_entries capacities_few (arcs_of cap_arc_in items))
+    by_kind Kinds.Sp s = omega (arith, graph_few length_entries lengths_few (arcs_of length_arc_in items))
     by_kind _ s = omega (arith, s.1)
 
 pub so_far_fits : (ls : List (List ℕ)) → IsClean ls → counted (items_of ls) < 2 ^ 63

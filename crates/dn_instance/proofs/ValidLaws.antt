@@ -7,7 +7,7 @@ use Rattle.std.proofs.lemmas.Int.{ints}
 use Rattle.std.specs.Option.{option_or}
 use Rattle.std.specs.List.{AllByRecursion, list_all}
 use Rattle.std.proofs.lemmas.List.Elements.{filter_map-append}
-use Rattle.dn_line.specs.Number.{number_read, fits, is_number, number_value}
+use Rattle.dn_num.specs.Number.{number_read, fits, is_number, number_value}
 use Rattle.dn_line.specs.declared.kind.Kind.{Kind}
 use Rattle.dn_line.specs.declared.kind.Kind.TheVariants as Kinds
 use Rattle.dn_line.specs.declared.kind.Letter.{Letter}

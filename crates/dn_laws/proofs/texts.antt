@@ -4,3 +4,5 @@ pub mod RangeLaws
 pub mod ExampleLaws
 pub mod KeyLaws
 pub mod ExistLaws
+pub mod ContentLaws
+pub mod ArcOrderLaws

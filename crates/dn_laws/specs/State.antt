@@ -1,3 +1,4 @@
+pub mod Contents
 pub mod BundleExamples
 pub mod TextExamples
 pub mod DifferenceExamples

@@ -12,7 +12,8 @@ use Rattle.dn_instance.specs.declared.companion.CompanionFault.{CompanionFault}
 use Rattle.dn_instance.specs.declared.refusal.Refusal.{Refusal}
 use Rattle.dn_instance.specs.declared.refusal.Refusal.TheVariants.{Text, Memory, Read, Endless, CountTooLarge}
 use Rattle.dn_run.specs.Answers.{Answer, Done, Refused, Unfit, Cut}
-use Rattle.dn_run.specs.Details.{Detail, in_brief, known_text}
+use Rattle.dn_run.specs.Details.{Detail}
+use Rattle.dn_run.specs.State.Briefs.{in_brief, known_text}
 use Rattle.dn_run.specs.FilesRuns.{FilesRun, in_full, text_asked}
 use Rattle.dn_run.specs.Outcomes.{IsRefusedAs, OnText, OnTwoTexts, RanOn, RanOnSome, RanOnTwo}
 use Rattle.dn_run.specs.Runs.{IsRefusedRun, Performs}

@@ -23,7 +23,7 @@ use Rattle.dn_run.specs.State.Endings.{unwritten}
 use Rattle.dn_run.specs.FilesRuns.{FilesRun, text_asked, ReadsOne, TwoAsked}
 use Rattle.dn_run.specs.State.Findings.{IsFound, PutsFinding, verdict_status}
 use Rattle.dn_run.specs.Outcomes.{OnText, OnTwoTexts, RanOn}
-use Rattle.dn_run.specs.Runs.{Never, PutsCanon, PutsChecked, PutsCompared, PutsFit, Unfits}
+use Rattle.dn_run.specs.Findings.{Never, PutsCanon, PutsChecked, PutsCompared, PutsFit, Unfits}
 use Rattle.dn_run.specs.Streams.{SinkRun, sink_run}
 use Rattle.dn_run.specs.Texts.{AskedText, IsRefusedCanon, IsRefusedCopy, IsRefusedText, unopened}
 use Rattle.dn_run.specs.State.TextReads.{IsCopy, IsRead}

@@ -3,3 +3,4 @@ pub mod OutcomeLaws
 pub mod CommandLaws
 pub mod RunLaws
 pub mod BriefLaws
+pub mod StatusLaws

@@ -11,10 +11,12 @@ use Rattle.dn_instance.proofs.ValidLaws.{some_is}
 use Rattle.dn_canon.specs.CanonTexts.{IsTooLarge}
 use Rattle.dn_command.specs.Commands.{Asked, Show, Check, Canon, Compare, asks, names_twice, plain_asked}
 use Rattle.dn_run.specs.Answers.{Answer, Done, Refused, Unfit, Cut, refusal_status, status_of, Tells}
-use Rattle.dn_run.specs.Details.{Detail, in_brief, known_text}
+use Rattle.dn_run.specs.Details.{Detail}
+use Rattle.dn_run.specs.State.Briefs.{in_brief, known_text}
 use Rattle.dn_run.specs.FilesRuns.{FilesRun, files_run, in_full}
 use Rattle.dn_run.specs.Outcomes.{IsRefusedAs, OnText, OnTwoTexts, RanOn}
-use Rattle.dn_run.specs.Runs.{Performs, Unfits, IsRefusedRun}
+use Rattle.dn_run.specs.Findings.{Unfits}
+use Rattle.dn_run.specs.Runs.{Performs, IsRefusedRun}
 use Rattle.dn_run.specs.State.NotAccepted.{NotAccepted}
 use Rattle.dn_run.specs.Streams.{SinkRun, sink_run}
 use Rattle.dn_run.specs.Texts.{AskedText, IsRefusedCanon, IsRefusedCopy, IsRefusedText, unopened}

@@ -1,10 +1,12 @@
 pub mod Streams
+pub mod Findings
 pub mod Answers
 pub mod Texts
 pub mod Details
 pub mod Outcomes
 pub mod Runs
 pub mod Words
+pub mod Statuses
 pub mod HostRuns
 pub mod TextSources
 pub mod FilesRuns

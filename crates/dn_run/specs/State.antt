@@ -1,3 +1,4 @@
+pub mod Briefs
 pub mod Endings
 pub mod TextReads
 pub mod CommandRuns

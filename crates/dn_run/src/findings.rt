@@ -6,7 +6,7 @@ ghost use Rattle.dn_command.specs.Commands.{Check};
 ghost use Rattle.dn_run.specs.Answers.{IsAnswerTo, OutAfter};
 ghost use Rattle.dn_run.specs.State.Endings.{answer_of};
 ghost use Rattle.dn_run.specs.State.Findings.{IsFound, PutsFinding, verdict_status};
-ghost use Rattle.dn_run.specs.Runs.{AreForms, PutsChecked, PutsCompared};
+ghost use Rattle.dn_run.specs.Findings.{AreForms, PutsChecked, PutsCompared};
 ghost use Rattle.dn_run.specs.Streams.{sink_run};
 
 use crate::stop::Stop;

@@ -2,9 +2,9 @@
 ghost use Rattle.std.specs.Prelude.{◌≡◌, ◌≤◌, MatchResult, map, string_bytes};
 ghost use Rattle.dn_run.specs.Streams.{sink_run};
 ghost use Rattle.dn_host.specs.Openers.{behind_of};
-ghost use Rattle.dn_run.specs.Details.{in_brief};
 ghost use Rattle.dn_run.specs.FilesRuns.{files_run, in_full};
 ghost use Rattle.dn_run.specs.HostRuns.{NoWords};
+ghost use Rattle.dn_run.specs.Statuses.{RanPlain};
 ghost use Rattle.dn_run.specs.Words.{Ran};
 
 use crate::runs::{refuse_words, run};
@@ -33,7 +33,7 @@ pub fn run_on<'a, P: Opener, O: Sink, E: Sink>(
     ensures ran { let o = sink_run O.sink (out.old, out.new) in
         let e = sink_run E.sink (err.old, err.new) in
         MatchResult words.now
-        (λ ws. Ran (map string_bytes ws.items) (in_brief (behind_of P.opener files.old.opener.now)) o e result)
+        (λ ws. RanPlain (map string_bytes ws.items) (behind_of P.opener files.old.opener.now) o e result)
         (λ error. NoWords o e error result) }
     ensures also { let o = sink_run O.sink (out.old, out.new) in
         let e = sink_run E.sink (err.old, err.new) in

@@ -1,7 +1,7 @@
 // A run of the program, over any files and any streams.
 ghost use Rattle.std.specs.Prelude.{◌≡◌, ◌≤◌, map, string_bytes};
-ghost use Rattle.dn_run.specs.Details.{in_brief};
 ghost use Rattle.dn_run.specs.FilesRuns.{files_run, in_full};
+ghost use Rattle.dn_run.specs.Statuses.{RanPlain};
 ghost use Rattle.dn_run.specs.Streams.{TakesLine, sink_run};
 ghost use Rattle.dn_run.specs.Words.{PrintsText, Ran, bad_command_line};
 
@@ -27,7 +27,7 @@ pub fn run<F: Files, O: Sink, E: Sink>(
     err: &mut E,
 ) -> u8
     ensures status { result ≤ 4 }
-    ensures ran { Ran (map string_bytes words.now) (in_brief (F.files.behind files.old))
+    ensures ran { RanPlain (map string_bytes words.now) (F.files.behind files.old)
         (sink_run O.sink (out.old, out.new)) (sink_run E.sink (err.old, err.new)) result }
     ensures also { Ran (map string_bytes words.now) (in_full (files_run F.files F.Text.source (files.old, files.new)))
         (sink_run O.sink (out.old, out.new)) (sink_run E.sink (err.old, err.new)) result }

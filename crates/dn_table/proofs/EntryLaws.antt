@@ -9,7 +9,8 @@ use Rattle.std.specs.Map.{keys_of, lookup}
 use Rattle.dn_arc.specs.State.Bundles.{AreSizes, IsKind, listed_of}
 use Rattle.dn_arc.specs.Canonical.{has_low}
 use Rattle.dn_arc.specs.Capacities.{total_cap}
-use Rattle.dn_arc.specs.Entries.{ArcSizes, distinct, has_room, length_entries, cap_entries, cost_entries}
+use Rattle.dn_arc.specs.Entries.{distinct, has_room, length_entries, cap_entries, cost_entries}
+use Rattle.dn_arc.specs.State.Sizes.{ArcSizes}
 use Rattle.dn_arc.specs.declared.arc.LengthArc.{LengthArc}
 use Rattle.dn_arc.specs.declared.arc.CapArc.{CapArc}
 use Rattle.dn_arc.specs.declared.arc.CostArc.{CostArc}
@@ -173,7 +174,7 @@ module _ {B Arc : Type 0} (kind : ArcKind Arc) (sizes : ArcSizes Arc) (laws : Is
   -- the bundles of a table make as many entries as the arcs that the table represents
   pub table_entries : (table : List (Pair × B)) (arcs : List (Pair × Arc)) → Once (keys_of table)
       → TableLists kind lists table arcs → AreArcs kind arcs
-      → sum_by (λ (e : Pair × B). sizes.entries (lists e.1)) table ≡ graph_entries sizes arcs
+      → sum_by (λ (e : Pair × B). sizes.entries (lists e.1)) table ≡ graph_entries sizes.entries arcs
   table_entries table arcs once t are =
       sum_at f (λ b. sizes.entries (lists b)) table table (λ k m. refl) once at
       ∙ same_sum f (keys_of table) (distinct same_pair (map (λ a. a.0) arcs)) once
@@ -243,7 +244,7 @@ module _ {Arc : Type 0} (sizes : ArcSizes Arc) (none_entries : sizes.entries [] 
 
   -- with one more arc that makes more entries of its pair, a graph makes more entries
   pub graph_grows : sizes.entries (bundle a.0 arcs) < sizes.entries (bundle a.0 arcs ++ a.1 ∷ [])
-      → graph_entries sizes arcs < graph_entries sizes more
+      → graph_entries sizes.entries arcs < graph_entries sizes.entries more
   graph_grows h =
       let same =
       same_sum f (distinct same_pair (keys more)) (distinct same_pair (keys arcs)) (once_distinct (keys more))
@@ -328,18 +329,18 @@ module _ {Arc : Type 0} where
   bundles_few (a ∷ rest) ps o = let split = split_sum a rest ps in let one = one_at a.0 ps o in
       omega (arith, bundles_few rest ps o)
 
-  module _ (sizes : ArcSizes Arc) (bound : (xs : List Arc) → sizes.entries xs ≤ 2 * length xs) where
+  module _ (entries : List Arc → ℕ) (bound : (xs : List Arc) → entries xs ≤ 2 * length xs) where
     each_few : (arcs : List (Pair × Arc)) (ps : List Pair)
-        → sum_by (λ p. sizes.entries (bundle p arcs)) ps ≤ 2 * sum_by (λ p. length (bundle p arcs)) ps
+        → sum_by (λ p. entries (bundle p arcs)) ps ≤ 2 * sum_by (λ p. length (bundle p arcs)) ps
     each_few arcs [] = omega arith
     each_few arcs (p ∷ ps) =
-        let one = sum_by-cons (λ x. sizes.entries (bundle x arcs)) p ps in
+        let one = sum_by-cons (λ x. entries (bundle x arcs)) p ps in
         let two = sum_by-cons (λ x. length (bundle x arcs)) p ps in
         let head = bound (bundle p arcs) in
         omega (arith, each_few arcs ps)
 
     -- the entries are at most two for each arc
-    pub graph_few : (arcs : List (Pair × Arc)) → graph_entries sizes arcs ≤ 2 * length arcs
+    pub graph_few : (arcs : List (Pair × Arc)) → graph_entries entries arcs ≤ 2 * length arcs
     graph_few arcs =
         let ps = distinct same_pair (map (λ (a : Pair × Arc). a.0) arcs) in
         let each = each_few arcs ps in

@@ -2,7 +2,7 @@
 use Rattle.std.proofs.Common.{◌≡◌, ℕ, zero, suc, ℤ, List, [], ◌∷◌, ◌++◌, None, refl, arith, inl, inr}
 use Rattle.std.specs.List.{AllByRecursion}
 use Rattle.std.specs.Map.{lookup}
-use Rattle.dn_arc.specs.Entries.{ArcSizes}
+use Rattle.dn_arc.specs.State.Sizes.{ArcSizes}
 use Rattle.dn_arc.specs.Kinds.{ArcKind}
 use Rattle.dn_arc.specs.State.CanonArcs.{NeedsMore}
 use Rattle.dn_arc.specs.declared.arc.Form.TheVariants.{One}

@@ -12,7 +12,7 @@ from typing import Optional, Union
 
 from .answers import AnyDifference, Checked, Form, Same
 from .errors import Refused
-from .files import File, Pieces, Sink, Target, Text, enough_memory, name_of, sink_of
+from .files import Bounds, File, Pieces, Sink, Target, Text, enough_memory, name_of, sink_of
 from .instances import Instance
 from .library import Held, held
 from .limits import Limit, at_once
@@ -131,8 +131,8 @@ class SummedText(Text):
     """A text whose pieces are summed. `checksum` is that of the bytes that were read, or None if no canonical text
     begins as it does."""
 
-    def __init__(self, file: File, stack: contextlib.ExitStack, limit: Limit) -> None:
-        super().__init__(file, stack, limit)
+    def __init__(self, file: File, stack: contextlib.ExitStack, limit: Limit, bounds: Optional[Bounds] = None) -> None:
+        super().__init__(file, stack, limit, bounds)
         self._sum, self._is_canonical = hashlib.sha256(), True
 
     def next_piece(self) -> Optional[bytes]:

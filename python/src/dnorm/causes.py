@@ -1,15 +1,39 @@
-"""What shows the cause of a refusal: the refused line, and hints that the text gives."""
+"""What shows the cause of a refusal: the refused line with its wrong word, the row that the line is to have, and hints
+that the text gives.
+
+The hints are data, the file hints.json, which JavaScript can evaluate as well. It has
+
+- `rows`: the lines of each kind by their letters, the counted line last. Words in capitals, and s|t, are fields.
+- `marks`: which word of a refused line is wrong, by the number of the refusal: the one at the place `word`, counted
+  from 0; or else the first one of these `fields`, by default of all fields of numbers, that `unless` does not match, or
+  that is no number from `least` to `most`, of which each may be missing or be the name of a fact.
+- `file`, of which the first hint that holds counts; `line`, all of them, if none of `file` holds; `fault`, all of
+  them; and `remedy`, all of them, if no other hint holds.
+
+A hint has facts with tests under `if`, all of which must hold; facts with tests under `unless`, none of which may hold;
+the text that it says, and perhaps `run`, a command that prints the text that is meant of the file. A test is a regular
+expression, which is searched; a number; or a list of numbers, one of which is to be the fact. The expressions have the
+same meaning in Python with re.ASCII and in JavaScript without flags. The facts are
+
+- `number`, that of the refusal; `line`, the refused line without LF, up to 4,096 bytes; `head`, the first 1,024 bytes
+  of the text; `kind`, and `nodes` and `declared`, the last two numbers on the problem line; `word`, the wrong word, and
+  `field`, what it is called; `rows`, the rows of the kind. Bytes are characters from U+0000 to U+00FF.
+- only in texts, as {found}: `found`, the number of counted lines; `seen`, where the node or the terminal of the line
+  comes first; `sum`, the sum of a pair; `naming`, the line that names a node; `file`, the name of the file as a word of
+  a shell. A text whose fact is not known is not said.
+"""
 
 from __future__ import annotations
 
 import contextlib
+import functools
+import json
 import os
 import re
 from collections.abc import Callable, Iterator
 from itertools import islice
-from typing import NamedTuple
+from typing import Any, NamedTuple, Optional, Union
 
-from .compressed import SIZE
 from .names import ending_of
 
 # Begins a text, and yields its pieces.
@@ -20,59 +44,34 @@ KEPT, SHOWN = 4096, 200
 BLANK = rb"[ \t\r]"
 PROBLEM = re.compile(rb"%s*p%s" % (BLANK, BLANK))
 COUNTED = re.compile(rb"^%s*[asqv](?:%s|$)" % (BLANK, BLANK), re.M)
-# The refusals that depend on the number of counted lines.
-COUNTS = (7, 20)
-# What the first bytes of a file mean, and the command that makes a text of it. {} stands for the name of the file.
-MARKS = [
-    (b"\x1f\x8b", "The file is compressed by gzip", "gzip -dc < {}"),
-    (b"\x1f\x9d", "The file is compressed by compress", "gzip -dc < {}"),
-    (b"\xfd7zX", "The file is compressed by xz", "xz -dc < {}"),
-    (b"BZh", "The file is compressed by bzip2", "bzip2 -dc < {}"),
-    (b"\x28\xb5\x2f\xfd", "The file is compressed by zstd", "zstd -dc < {}"),
-    (b"\x04\x22\x4d\x18", "The file is compressed by lz4", "lz4 -dc < {}"),
-    (b"PK\x03\x04", "The file is a zip archive", "unzip -p {}"),
-    (b"7z\xbc\xaf", "The file is an archive of 7-Zip", "7z e -so {}"),
-    (b"\xef\xbb\xbf", "The file begins with a byte order mark", "tail -c +4 < {}"),
-    (b"\xff\xfe\0\0", "The file is in UTF-32", "iconv -f UTF-32 -t UTF-8 < {}"),
-    (b"\0\0\xfe\xff", "The file is in UTF-32", "iconv -f UTF-32 -t UTF-8 < {}"),
-    (b"\xff\xfe", "The file is in UTF-16", "iconv -f UTF-16 -t UTF-8 < {}"),
-    (b"\xfe\xff", "The file is in UTF-16", "iconv -f UTF-16 -t UTF-8 < {}"),
-]
-# What the files are that have such a head in place of a text, in small letters, and how to get the text.
-LFS = b"version https://git-lfs"
-POINTER = "The file is a pointer of Git LFS, and the text is missing: git lfs pull"
+# The names of files that git-annex has.
 ANNEX = "annex/objects/"
-ANNEXED = "The file is a pointer of git-annex, and the text is missing: git annex get"
-PAGE = "The file is a page of the web, as a server sends for an error or a login: get the file again"
-HEADS = [(LFS, POINTER), (f"/{ANNEX}".encode(), ANNEXED), (b"<!doctype", PAGE), (b"<html", PAGE), (b"<?xml", PAGE)]
-# The lines that git puts around the two sides of a conflict.
-CONFLICT = re.compile(rb"(?:<<<<<<<|\|\|\|\|\|\|\||>>>>>>>) .*|=======\r?")
-# UTF-16 without a mark: characters of ASCII, each beside a NUL.
-WIDE = [(re.compile(rb"(?:[\t\n\r -~]\0){2,}"), "LE"), (re.compile(rb"(?:\0[\t\n\r -~]){2,}"), "BE")]
+# How many bytes of a text hints look at.
+HEAD = 1024
 # The marks of the compressions that endings name.
 PACKED = {".gz": b"\x1f\x8b", ".bz2": b"BZh", ".xz": b"\xfd7zX", ".zst": b"\x28\xb5\x2f\xfd"}
-# A line that ends in bytes that other systems put at the end of a text.
-ENDED = re.compile(rb"[^\0\x1a]*[\0\x1a]+")
-# What mends the text where the text itself says no more.
-NO_LIMIT = "for no limit, write a capacity that no flow exceeds"
-REMEDIES = {
-    3: "Separate the files, or keep one problem line with the sums of the counts",
-    4: "The kinds are min, max, sp, aux sp ss, aux sp p2p and aux sp co, in lower case",
-    6: "Put all node lines before the arcs", 8: "Add the field, or put the comment on a line of its own",
-    9: "Scale to whole numbers; remove a fraction that is 0", 10: f"Scale the numbers down; {NO_LIMIT}",
-    11: f"Costs, lengths and flows may be below 0; {NO_LIMIT}", 12: "Write s for the source and t for the sink",
-    16: f"The order is LOW, CAP, COST; {NO_LIMIT}",
-    18: "The text has only comments, or the command that wrote it failed",
-    19: "Add the line n ID s or n ID t, before the arcs",
-    36: "The graph comes first, an sp text, and then the companion, an ss, p2p or co text",
-}  # fmt: skip
+
+# The refusals that a row explains. A field that is no number is s|t.
+ROWS = (1, 8, 9, 10, 11, 12, 13, 16, 17)
+# What is known of a refusal, by the names in hints. A function finds what takes a look at the text.
+FACTS = ("line", "head", "kind", "nodes", "declared", "rows", "word", "field", "found", "seen", "sum", "naming", "file")
+Fact = Union[None, int, str, Callable[[], Optional[str]]]
 
 
 class Cause(NamedTuple):
-    """The refused line, with all its bytes made visible, or None for the end of a text; and hints."""
+    """The refused line, with all its bytes made visible, or None for the end of a text; where its wrong word begins and
+    ends there, if that is known; and hints."""
 
     text: str | None
+    mark: tuple[int, int] | None
     hints: list[str]
+
+
+@functools.lru_cache(maxsize=None)
+def data() -> Any:
+    """Returns what hints.json has."""
+    with open(os.path.join(os.path.dirname(__file__), "hints.json"), encoding="ascii") as file:
+        return json.load(file)
 
 
 def visible(data: bytes) -> str:
@@ -107,34 +106,123 @@ def lines_of(pieces: Iterator[bytes]) -> Iterator[bytes]:
         yield rest
 
 
-def cause_of(text: Opener, name: str | None, line: int | None, number: int, node: int | None = None) -> Cause:
-    """Returns the cause of a refusal, by its line, its number and its node. `name` is that of the file, if the bytes of
-    the file are the text: hints have commands then."""
+def cause_of(text: Opener | None, name: str | None, line: int | None, number: int, node: int | None = None) -> Cause:
+    """Returns the cause of a refusal, by its line, its number and its node, also if the text is not known. `name` is
+    that of the file, if the bytes of the file are the text: hints have commands then."""
+    if text is None:
+        return Cause(None, None, hints_of({**dict.fromkeys(FACTS), "number": number}))
     head = next(text(), b"")
     refused, problem = scanned(lines_of(text()), line)
-    hints = [hint(*found, name) for found in meanings(head[:SIZE], refused)]
-    words = (refused or b"").split()
-    if number in COUNTS and problem:
-        hints.append(f"declared {visible(problem[-1])}, found {counted(text())}: only a, s, q and v lines count")
-    if number == 13 and len(problem) > 2 and problem[1] != b"aux":
-        hints.append(f"NODES {visible(problem[2])}: nodes count from 1")
-    if number == 14 and line and len(words) > 1:
-        hints += hints_of_repeated(lines_of(text()), words)
-    if number == 17 and line and len(words) in (4, 6):
-        hints += hints_of_sum(lines_of(text()), line, words)
-    if node is not None:
-        hints += hints_of_node(lines_of(text()), node)
-    if not hints and number in REMEDIES:
-        hints.append(REMEDIES[number])
-    return Cause(None if refused is None else visible(refused[:SHOWN]), hints)
+    words = words_of(refused or b"")
+    named = problem[3:4] if problem[1:2] == ["aux"] else problem[1:2]
+    kind = named[0] if named else ""
+    facts: dict[str, Fact] = {"number": number, "line": plain(refused or b""), "head": plain(head[:HEAD]), "kind": kind}
+    facts |= {"nodes": dict(enumerate(problem)).get(2), "declared": problem[-1] if problem else None}
+    facts["file"] = name and quoted(name)
+    facts |= {"rows": "; ".join(data()["rows"].get(kind, {}).values()), "word": None, "field": None}
+    again = text
+    facts |= {"found": lambda: str(counted(again())), "naming": lambda: named_by(lines_of(again()), node)}
+    facts |= {"seen": lambda: seen(lines_of(again()), words), "sum": lambda: summed(lines_of(again()), line, words)}
+    fields = fields_of(kind, words)
+    at = place_of(number, words, fields, facts) if words else None
+    if at is not None and at < len(words):
+        facts |= {"word": plain(words[at]), "field": fields[at] if at < len(fields) else None}
+    # A line of numbers lacks its letter.
+    row = [row_of([fields[0].encode(), *words] if number == 1 else words, fields)] if fields and number in ROWS else []
+    shown = None if refused is None else visible(refused[:SHOWN])
+    return Cause(shown, None if at is None else mark_of(refused or b"", at), row + hints_of(facts))
 
 
-def scanned(lines: Iterator[bytes], line: int | None) -> tuple[bytes | None, list[bytes]]:
+def words_of(line: bytes) -> list[bytes]:
+    return re.findall(rb"[^ \t\r]+", line)
+
+
+def plain(text: bytes) -> str:
+    return text.decode("latin-1")
+
+
+def hints_of(facts: dict[str, Fact]) -> list[str]:
+    """Returns what the hints say that hold."""
+    lists = {name: [it for it in data()[name] if holds(it, facts)] for name in ("file", "line", "fault", "remedy")}
+    chosen = [*(lists["file"][:1] or lists["line"]), *lists["fault"]]
+    told = [text for text in (said(it, facts) for it in chosen) if text]
+    return told or [text for text in (said(it, facts) for it in lists["remedy"]) if text]
+
+
+def holds(hint: Any, facts: dict[str, Fact]) -> bool:
+    """Whether a hint holds with these facts."""
+
+    def meets(fact: Fact, test: Any) -> bool:
+        if isinstance(test, str):
+            return isinstance(fact, str) and re.search(test, fact, re.ASCII) is not None
+        return fact in (test if isinstance(test, list) else [test])
+
+    is_met = all(meets(facts[it], test) for it, test in hint["if"].items())
+    return is_met and not any(meets(facts[it], test) for it, test in hint.get("unless", {}).items())
+
+
+def said(hint: Any, facts: dict[str, Fact]) -> str | None:
+    """Returns the text of a hint, with a command if the file has a name, or None if a fact is not known."""
+    text = hint["say"] + (f": {hint['run']} | dnorm check -" if "run" in hint and facts["file"] else "")
+    known = {it: fact() if callable(fact) else fact for it in re.findall(r"\{(\w+)\}", text) for fact in [facts[it]]}
+    return text.format(**known) if all(known.values()) else None
+
+
+def fields_of(kind: str, words: list[bytes]) -> list[str]:
+    """Returns what the words of a line are called in this kind, with its letter first, or nothing if they are not
+    known. A line of numbers lacks its letter."""
+    letter, rows = plain(words[0]) if words else "", data()["rows"].get(kind, {})
+    if rows and number_of(words[0] if words else b"") is not None:
+        # The counted line is the last one of a kind.
+        return str([*rows.values()][-1]).split()
+    if letter == "p":
+        heads = [it["p"].split() for it in data()["rows"].values()]
+        return next((it for it in heads if all(plain(w) == f for w, f in zip(words, it) if not f.isupper())), [])
+    return str(rows.get(letter, "")).split()
+
+
+def row_of(words: list[bytes], fields: list[str]) -> str:
+    """Returns the row that a line is to have, with the words that are there."""
+    told = [f"{it}={visible(word[:40])}" if it.isupper() or "|" in it else it for it, word in zip(fields, words)]
+    missing, extra = fields[len(words) :], words[len(fields) :]
+    more = f": {' and '.join(missing)} {'is' if len(missing) == 1 else 'are'} missing" if missing else ""
+    return " ".join([*told, *missing]) + (f": {visible(extra[0][:40])} is too many" if extra else more)
+
+
+def place_of(number: int, words: list[bytes], fields: list[str], facts: dict[str, Fact]) -> int | None:
+    """Returns the place of the wrong word on a line, the number of words if one is missing, or None."""
+    rule: dict[str, Any] = data()["marks"].get(str(number), {})
+    if number == 8 and fields:
+        return min(len(words), len(fields))
+    if not rule or "word" in rule:
+        return int(rule["word"]) if rule else None
+    bounds = (str(rule.get(it)) for it in ("least", "most"))
+    least, most = (number_of(str(facts.get(it, it)).encode()) for it in bounds)
+    for at, (name, word) in enumerate(zip(fields, words)):
+        found = number_of(word)
+        is_outside = found is not None and (least is not None and found < least or most is not None and found > most)
+        is_other = "unless" in rule and not re.search(rule["unless"], plain(word))
+        if (name in rule["fields"] if "fields" in rule else name.isupper()) and (
+            is_outside or is_other or len(rule) == 1 and "fields" in rule
+        ):
+            return at
+    return None
+
+
+def mark_of(line: bytes, at: int) -> tuple[int, int] | None:
+    """Returns where the word at this place, or the end of the words, is in what is shown of a line."""
+    places = [it.span() for it in re.finditer(rb"[^ \t\r]+", line)]
+    start, end = places[at] if at < len(places) else (places[-1][1] + 1, places[-1][1] + 2)
+    before = len(visible(line[:start].ljust(start)))
+    return (before, before + max(1, len(visible(line[start : min(end, SHOWN)])))) if start < SHOWN else None
+
+
+def scanned(lines: Iterator[bytes], line: int | None) -> tuple[bytes | None, list[str]]:
     """Returns the refused line, and the words of the problem line, if that comes before."""
-    problem: list[bytes] = []
+    problem: list[str] = []
     for at, it in enumerate(lines, 1):
         if not problem and PROBLEM.match(it):
-            problem = it[:SHOWN].split()
+            problem = [visible(one) for one in words_of(it[:SHOWN])]
         if at == line:
             return it, problem
         if problem:
@@ -154,98 +242,79 @@ def counted(pieces: Iterator[bytes]) -> int:
     return count + len(COUNTED.findall(rest))
 
 
-def meaning_of(head: bytes) -> tuple[str, str]:
-    """Returns what the first bytes of a file mean, and the command that makes a text of it, or nothing for none."""
-    for mark, what, command in MARKS:
-        if head.startswith(mark):
-            return what, command
-    found = next((what for begin, what in HEADS if head.lstrip().lower().startswith(begin)), "")
-    return ("" if head else "The file is empty") or found, ""
-
-
-def hint(what: str, command: str, name: str | None) -> str:
-    """Returns what is found, and the command that checks the text that it makes of the file of this name."""
-    return f"{what}: {command.format(quoted(name))} | dnorm check -" if name and command else what
-
-
-def meanings(head: bytes, refused: bytes | None) -> Iterator[tuple[str, str]]:
-    """Yields what the first bytes of a text mean, or else the ends of its lines and those of the refused one, each with
-    the command that makes a text of it, or nothing for none."""
-    found = meaning_of(head)
-    wide = next((order for pattern, order in WIDE if pattern.match(head)), "")
-    if found[0]:
-        yield found
-    elif wide:
-        yield "The file is in UTF-16 without a mark", f"iconv -f UTF-16{wide} -t UTF-8 < {{}}"
-    elif refused and CONFLICT.fullmatch(refused):
-        yield "The line is of a conflict that git could not merge: keep one side, and remove such lines", ""
-    else:
-        if b"\r" in head and b"\n" not in head:
-            yield "CR alone ends lines", r"tr '\r' '\n' < {}"
-        if refused and len(refused) < KEPT and ENDED.fullmatch(refused):
-            yield "The line ends in NUL or Ctrl-Z", r"tr -d '\0\032' < {}"
-        elif refused and b"\0" in refused:
-            yield "The line has NUL within, where data may be lost: get the file again", ""
-
-
 def hint_of_compressed(head: bytes, name: str) -> str:
     """Returns what the first bytes of a file mean that cannot be decompressed as its name says."""
     if head.startswith(PACKED.get(ending_of(name), b"\0")):
         return "The file is cut or damaged: get it again"
-    what, command = meaning_of(head)
-    if command:
-        return hint(f"{what}, and its name says another thing", command, name)
-    if not what and re.fullmatch(rb"[\t\n\r -~]+", head):
+    facts: dict[str, Fact] = {
+        "number": 31,
+        "head": plain(head),
+        "line": "",
+        "file": quoted(name),
+        "kind": "",
+        "word": "",
+    }
+    found = next((it for it in data()["file"] if holds(it, facts)), None)
+    if found and "run" in found:
+        return str(said({**found, "say": f"{found['say']}, and its name says another thing"}, facts))
+    if not found and re.fullmatch(rb"[\t\n\r -~]+", head):
         return f"The file is not compressed: dnorm check - < {quoted(name)}"
-    return what or "The file is not compressed as its name says"
+    return (
+        str(said(found, facts))
+        if found
+        else "The file is not compressed as its name says"
+        if head
+        else "The file is empty"
+    )
 
 
 def hint_of_missing(path: str | os.PathLike[str] | os.PathLike[bytes]) -> str | None:
     """Returns why a file may be missing: what a link leads to that leads nowhere."""
     with contextlib.suppress(OSError, ValueError):
         if ANNEX in os.readlink(os.fsdecode(path)) and not os.path.exists(path):
-            return ANNEXED
+            return "The file is a pointer of git-annex, and the text is missing: git annex get"
     return None
 
 
-def hints_of_repeated(lines: Iterator[bytes], words: list[bytes]) -> Iterator[str]:
-    """Yields where the node, the source or the sink of a refused line comes first."""
+def seen(lines: Iterator[bytes], words: list[bytes]) -> str | None:
+    """Returns where the node, the source or the sink of a refused line comes first."""
     terminal = words[2] if words[2:] and words[2] in (b"s", b"t") else None
     for at, it in enumerate(lines, 1):
-        found = it.split()
+        found = words_of(it)
         if found[:1] != words[:1] or len(found) < 3:
             continue
         if terminal and found[2] == terminal:
             what = "source" if terminal == b"s" else "sink"
-            yield f"The {what} is node {visible(found[1])}, by line {at}"
-            return
+            return f"The {what} is node {visible(found[1])}, by line {at}"
         if number_of(found[1]) == number_of(words[1]):
-            yield f"{'Point' if words[0] == b'v' else 'Node'} {visible(words[1])} came first in line {at}"
-            return
+            return f"{'Point' if words[0] == b'v' else 'Node'} {visible(words[1])} came first in line {at}"
+    return None
 
 
-def hints_of_sum(lines: Iterator[bytes], line: int, words: list[bytes]) -> Iterator[str]:
-    """Yields the sum of the capacities of a pair before the refused line."""
+def summed(lines: Iterator[bytes], line: int | None, words: list[bytes]) -> str | None:
+    """Returns the sum of the capacities of a pair before the refused line."""
+    if len(words) not in (4, 6) or not line:
+        return None
     place = 3 if len(words) == 4 else 4
     tail, head, cap = (number_of(it) for it in (*words[1:3], words[place]))
     if tail is None or head is None or cap is None:
-        return
+        return None
     arc = re.compile(rb"%s*a%s+\+?0*%d%s+\+?0*%d%s" % (BLANK, BLANK, tail, BLANK, head, BLANK))
-    arcs = (it.split() for it in islice(lines, line - 1) if arc.match(it))
+    arcs = (words_of(it) for it in islice(lines, line - 1) if arc.match(it))
     total = sum(number_of(it[place]) or 0 for it in arcs if len(it) > place)
-    yield f"The capacities from {tail} to {head} sum to {total} before this line, and with it to {total + cap}"
+    return f"The capacities from {tail} to {head} sum to {total} before this line, and with it to {total + cap}"
 
 
-def hints_of_node(lines: Iterator[bytes], node: int) -> Iterator[str]:
-    """Yields the first line of a companion that names a node."""
+def named_by(lines: Iterator[bytes], node: int | None) -> str | None:
+    """Returns the first line of a companion that names a node."""
     for at, it in enumerate(lines, 1):
-        letter, *others = it.split() or [b""]
+        letter, *others = words_of(it) or [b""]
         names = {b"s": 1, b"q": 2, b"v": 1}.get(letter, 0)
-        if node in map(number_of, others[:names]):
-            yield f"line {at} names it: {visible(it[:SHOWN])}"
-            return
+        if node is not None and node in map(number_of, others[:names]):
+            return f"line {at} names it: {visible(it[:SHOWN])}"
+    return None
 
 
 def number_of(word: bytes) -> int | None:
     """Returns the number that a word spells, if it does."""
-    return int(word) if re.fullmatch(rb"[+-]?[0-9]{1,19}", word) else None
+    return int(word) if re.fullmatch(rb"[+-]?[0-9]{1,4000}", word) else None

@@ -7,7 +7,7 @@ from collections.abc import Callable, Iterator
 from importlib import import_module
 from typing import Any, BinaryIO
 
-from .names import COMPRESSIONS, ending_of, unknown_compression, unknown_text
+from .names import COMPRESSIONS, ending_of, unknown_compression, unread_text
 
 # The number of bytes that are read and written at a time.
 SIZE = 1 << 16
@@ -93,8 +93,8 @@ def compression_of(name: str) -> str:
 
 def compressor_of(name: str) -> Callable[[BinaryIO], BinaryIO] | None:
     """Returns how the file of this name is compressed, or None if it is plain. Raises OSError for a compression that is
-    not written, and for a name that stands for no plain text."""
-    if reason := unknown_compression(name) or unknown_text(name):
+    not written."""
+    if reason := unknown_compression(name) or unread_text(name):
         raise OSError(reason)
     return COMPRESSORS.get(ending_of(name))
 

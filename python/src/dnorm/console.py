@@ -65,7 +65,7 @@ class Console:
     def __init__(self) -> None:
         self._out = open(1, "wb", buffering=0, closefd=False)
         self._lock = threading.Lock()
-        self._is_shown, self.is_terminal = os.isatty(1), os.isatty(2)
+        self.is_shown, self.is_terminal = os.isatty(1), os.isatty(2)
         self._done = self._total = self._size = 0
         self._drawn, self._at = "", 0.0
 
@@ -93,12 +93,14 @@ class Console:
                 self._complain(f"\r{drawn.ljust(len(self._drawn))}")
                 self._drawn = drawn
 
-    def print(self, text: str) -> None:
-        """Writes text to standard output. Raises Write if that fails, and Stopped if nothing reads it any more: then
-        the run ends as other programs do."""
+    def print(self, text: str | bytes) -> None:
+        """Writes text to standard output, and bytes as they are. Raises Write if that fails, and Stopped if nothing
+        reads it any more: then the run ends as other programs do."""
         self.hide()
         try:
-            write_all(self._out, os.fsencode(for_terminal(text) if self._is_shown else text))
+            if isinstance(text, str):
+                text = os.fsencode(for_terminal(text) if self.is_shown else text)
+            write_all(self._out, text)
         except BrokenPipeError as error:
             raise Stopped(signal.SIGPIPE) from error
         except OSError as error:

@@ -33,9 +33,10 @@ class Refused(DnormError):
 
     `line` counts from 1. It is None for a fault at the end of a text, and for the refusals 34 to 36. `number` and
     `word` are those of the refusal. For 35, `node` is the node that the companion names and the graph does not have.
-    `text` is the line, up to 200 bytes of it, as `cat -vT` prints them, and `hint` says what in the text may be the
-    cause. Both are None where there is nothing to say, and for a stream, which cannot be read again. The error prints
-    as the line of the program, as `roads.gr:3: 13 NodeOutOfRange`."""
+    `text` is the line, up to 200 bytes of it, as `cat -vT` prints them, `mark` says where the wrong word begins and
+    ends there, and `hint` what in the text may be the cause. Each is None where there is nothing to say, and for a
+    stream, which cannot be read again. `causes` has all of it in lines. The error prints as the line of the program,
+    as `roads.gr:3: 13 NodeOutOfRange`."""
 
     def __init__(
         self,
@@ -46,15 +47,27 @@ class Refused(DnormError):
         node: Optional[int] = None,
         text: Optional[str] = None,
         hint: Optional[str] = None,
+        mark: Optional[tuple[int, int]] = None,
     ) -> None:
-        super().__init__(name, line, number, word, node, text, hint)
+        super().__init__(name, line, number, word, node, text, hint, mark)
         self.line, self.number, self.word, self.node = line, number, word, node
-        self.text, self.hint = text, hint
+        self.text, self.hint, self.mark = text, hint, mark
 
     @property
     def sentence(self) -> str:
         """What is refused, in a sentence of `dnorm help`."""
         return REFUSALS[self.number][1]
+
+    @property
+    def causes(self) -> list[str]:
+        """The lines that show the cause: the sentence, the refused line with its wrong word marked, and the hint."""
+        found, before = [self.sentence], f"line {self.line}: "
+        if self.text:
+            found.append(before + self.text)
+            if self.mark:
+                start, end = self.mark
+                found.append((len(before) + start) * " " + (end - start) * "^")
+        return found + (self.hint.splitlines() if self.hint else [])
 
     @property
     def rest(self) -> str:

@@ -7,15 +7,21 @@ import io
 import os
 import secrets
 import stat
+import tempfile
 import threading
 from collections.abc import Callable, Iterable, Iterator
-from typing import BinaryIO, Literal, Optional, Protocol, Union
+from typing import BinaryIO, Literal, NamedTuple, Optional, Protocol, Union
 
-from .causes import SHOWN, Cause, cause_of, hint_of_compressed, hint_of_missing
+from .causes import ANNEX, SHOWN, Cause, cause_of, hint_of_compressed, hint_of_missing
 from .compressed import SIZE, compression_of, compressor_of, pieces
 from .errors import DnormError, Memory, Read, Write
 from .instances import Instance
 from .limits import Limit, Timed
+from .names import HIDDEN, real
+
+
+# Why what is found is not opened.
+NO_FILE = "it is neither a file nor a link to one"
 
 
 class Readable(Protocol):
@@ -90,6 +96,25 @@ class Pieces:
         return next(self._pieces, b"")
 
 
+class Copied:
+    """Standard input, of which a copy is kept as far as it is read: it can be read again from its beginning."""
+
+    name = "-"
+
+    def __init__(self) -> None:
+        self._file = open(0, "rb", buffering=0, closefd=False)
+        self._copy = tempfile.TemporaryFile()
+
+    def read(self, size: int, /) -> bytes:
+        data = self._file.read(size)
+        self._copy.write(data)
+        return data
+
+    def again(self) -> Iterator[bytes]:
+        self._copy.seek(0)
+        return of_stream(self._copy)
+
+
 def of_stream(stream: Readable) -> Iterator[bytes]:
     """Yields what a stream has from where it is to its end, in pieces."""
     while True:
@@ -109,12 +134,40 @@ def failed(error: Read) -> Iterator[bytes]:
     yield
 
 
-def opened(path: str | os.PathLike[str] | os.PathLike[bytes], limit: Limit) -> io.FileIO:
-    if limit.seconds is None:
+class Bounds(NamedTuple):
+    """What is opened of files that were found, and that nobody named: regular files whose real path is below one of
+    these folders, and not among what version control keeps for itself. `out` is the reason for any other one."""
+
+    folders: tuple[str, ...]
+    named: frozenset[str] = frozenset()
+    out: str = "it leads out of the folder; --follow reads it"
+    # Whether a search has found the files, so that no folder on their way is a link.
+    is_search: bool = False
+
+    def real(self, name: str) -> str:
+        """Returns the real path of a file that was found. Raises OSError if it leads out of the folders."""
+        if self.is_search and not os.path.islink(name):
+            return name
+        path = real(name)
+        ways = [path[len(it) :] for it in self.folders if f"{path}/".startswith(f"{it.rstrip('/')}/")]
+        # What git-annex has of a text is there.
+        inside = [it for it in ways if not HIDDEN.intersection(it.split("/")) or it.startswith(f"/.git/{ANNEX}")]
+        if not inside and self.folders != ("/",):
+            raise OSError(self.out)
+        return path
+
+
+def opened(path: str | os.PathLike[str] | os.PathLike[bytes], limit: Limit, bounds: Bounds | None = None) -> io.FileIO:
+    is_found = bounds is not None and path not in bounds.named
+    if limit.seconds is None and not is_found:
         return open(path, "rb", buffering=0)
+    real = bounds.real(os.fsdecode(path)) if bounds and is_found else path
     # Opening a FIFO waits for its writer, which nothing could end.
-    file = open(path, "rb", buffering=0, opener=lambda it, flags: os.open(it, flags | os.O_NONBLOCK))
+    more = os.O_NONBLOCK | (os.O_NOFOLLOW if is_found else 0)
+    file = open(real, "rb", buffering=0, opener=lambda it, flags: os.open(it, flags | more))
     try:
+        if is_found and not stat.S_ISREG(os.fstat(file.fileno()).st_mode):
+            raise OSError(NO_FILE)
         Timed(file, limit).wait()
         os.set_blocking(file.fileno(), True)
     except BaseException:
@@ -169,10 +222,10 @@ def place_in(file: io.FileIO) -> int:
 
 class Text:
     """A text that is read once, from its beginning: `is_file` says whether its bytes are those of an open file, and
-    `is_compressed` whether a file is decompressed. The file of a path is opened once, and the stack closes it. `size`
-    counts the bytes that were read."""
+    `is_compressed` whether a file is decompressed. The file of a path is opened once, within the bounds of what was
+    found, if there are any, and the stack closes it. `size` counts the bytes that were read."""
 
-    def __init__(self, file: File, stack: contextlib.ExitStack, limit: Limit) -> None:
+    def __init__(self, file: File, stack: contextlib.ExitStack, limit: Limit, bounds: Bounds | None = None) -> None:
         self.file, self.name, self.limit = file, name_of(file), limit
         self.size = 0
         self._opened: io.FileIO | None = None
@@ -182,7 +235,7 @@ class Text:
                 if isinstance(file, str) and "\n" in file and not os.path.lexists(file):
                     raise TypeError("a str is a path, and there is no such file: give a text as bytes")
                 with failing(Read, self.name):
-                    self._opened = stack.enter_context(opened(file, limit))
+                    self._opened = stack.enter_context(opened(file, limit, bounds))
                     self._mark = mark_of(self._opened)
                 progress.begin(self._opened)
                 stack.callback(progress.end, self._opened)
@@ -244,7 +297,7 @@ class Text:
 
     def cause(self, line: int | None, number: int, node: int | None) -> Cause | None:
         """Returns the cause of a refusal, if the text can be read again."""
-        if self._mark is None and not isinstance(self.file, (bytes, bytearray, memoryview, Instance)):
+        if self._mark is None and not isinstance(self.file, (bytes, bytearray, memoryview, Instance, Copied)):
             return None
         with contextlib.suppress(DnormError, OSError, EOFError):
             return cause_of(self._again, self.name if self.is_file else None, line, number, node)
@@ -252,6 +305,8 @@ class Text:
 
     def _again(self) -> Iterator[bytes]:
         """Begins the text once more, by the file that is open."""
+        if isinstance(self.file, Copied):
+            return self.file.again()
         if self._opened:
             self._opened.seek(0)
         return self._all(self._begun())
@@ -272,11 +327,9 @@ def sink_of(target: Target) -> Iterator[Sink]:
         with stream_sink(target, name) as sink:
             yield sink
         return
-    # A device or a pipe cannot be replaced, so it is written itself.
-    is_replaced = os.path.isfile(name) or not os.path.exists(name)
     with failing(Write, name):
         start = compressor_of(name)
-    with whole_file(name) if is_replaced else written_file(name, name, "wb") as file:
+    with file_at(name) as file:
         if not start:
             with stream_sink(file, name) as sink:
                 yield sink
@@ -285,6 +338,12 @@ def sink_of(target: Target) -> Iterator[Sink]:
             compressed = start(file)
         with closed(compressed, name):
             yield Sink(name, failing(Write, name)(compressed.write))
+
+
+def file_at(name: str) -> contextlib.AbstractContextManager[BinaryIO]:
+    """Opens the file of a path to be written. A device or a pipe cannot be replaced, so it is written itself."""
+    is_replaced = os.path.isfile(name) or not os.path.exists(name)
+    return whole_file(name) if is_replaced else written_file(name, name, "wb")
 
 
 @contextlib.contextmanager
@@ -330,7 +389,7 @@ def closed(file: BinaryIO, name: str) -> Iterator[None]:
 def whole_file(name: str) -> Iterator[BinaryIO]:
     """Opens a new file in the folder of the file of this name. At the end the new file takes the place and the mode of
     the old one. If anything is raised before, the new file is removed, and the old one stays as it is."""
-    path = os.path.realpath(name)
+    path = real(name)
     new = os.path.join(os.path.dirname(path), f".dnorm-{secrets.token_hex(8)}")
     try:
         with written_file(new, name, "xb") as file:

@@ -6,21 +6,21 @@ import os
 from collections.abc import Iterable, Sequence
 from concurrent.futures import ThreadPoolExecutor
 from dataclasses import dataclass
-from fnmatch import fnmatchcase
 from typing import NamedTuple, Optional, TypeVar, Union
 
 from .answers import Form, table
 from .calls import checked_form
 from .errors import DnormError, Read
-from .files import reason_of
+from .files import NO_FILE, Bounds, reason_of
 from .limits import check_seconds
 from .manifests import Manifest
-from .names import ENDINGS, is_text, misnamed_text
+from .names import ENDINGS, HIDDEN, is_excluded, is_text, real, unread_text
 from .program import processors
 from .records import Partners, Reading, Record, counts_of
 
-# What version control keeps for itself: branches can have names like texts. CVS has a list in each of its folders.
-HIDDEN, CVS, CVS_LIST = {".git", ".hg", ".svn", ".bzr", ".jj", "_darcs"}, "CVS", "Entries"
+EXCLUDES, LINK_TO_FOLDER = "--exclude leaves it out", "it is a link to a folder, which is not followed"
+# The folder of CVS, which has a list in each.
+CVS, CVS_LIST = "CVS", "Entries"
 
 Result = TypeVar("Result")
 
@@ -31,41 +31,57 @@ Files = dict[str, Optional[DnormError]]
 
 class Found(NamedTuple):
     """The files that paths name, each with the error of a path that cannot be searched; the other files below these
-    paths, each with the reason why it is not looked at, both in the order of the names; and how many files and folders
-    were left out, since a pattern excludes them."""
+    paths, each with the reason why it is not looked at, both in the order of the names; how many files and folders were
+    left out, since a pattern excludes them; within which bounds the files are opened; and the patterns that exclude
+    nothing."""
 
     files: Files
     others: dict[str, str]
     excluded: int = 0
+    bounds: Optional[Bounds] = None
+    unused: tuple[str, ...] = ()
 
 
-def find(paths: Iterable[str], endings: Sequence[str], excluded: Sequence[str] = ()) -> Found:
+def find(
+    paths: Iterable[str],
+    endings: Sequence[str],
+    excluded: Sequence[str] = (),
+    *,
+    follow: bool = False,
+    within: Optional[str] = None,
+) -> Found:
     """Returns the files that these paths name. The path of a folder names all files below it that end in one of these
     endings, in small letters or capitals, compressed or not, except what matches an excluded pattern. A folder that
-    cannot be read, or that has no such file, has an error, and so has a file in whose name something else follows such
-    an ending, and what is no file, as a pipe."""
-    search = Search(endings, excluded)
+    cannot be read, or that has no such file, has an error, and so has a text behind a compression that is not read, and
+    what is no file, as a pipe. Links lead to files below these folders, unless they are followed. Within a folder, the
+    paths are those of files that were found there."""
+    search, folders, named = Search(endings, excluded), list[str](), set[str]()
     for path in paths:
-        if os.path.isdir(path):
+        if within is not None:
+            if not search.leaves_out(path):
+                search.take(path)
+        elif path != "-" and os.path.isdir(path):
             missing = Read(path, f"no file in it ends in {' '.join(endings)}; --ending names other endings")
             search.files.update(search.below(path) or {path: missing})
+            folders.append(real(path))
         else:
-            search.files[path] = error_of_name(path, endings)
+            search.files[path] = None
+            named.add(path)
+    places = [real(within)] if within is not None else folders
     others = {name: reason for name, reason in search.others.items() if name not in search.files}
-    return Found(in_order_of_names(search.files), in_order_of_names(others), search.left_out)
+    bounds = Bounds(("/",) if follow or not places else tuple(places), frozenset(named), is_search=within is None)
+    unused = tuple(it for it in excluded if it not in search.used)
+    return Found(in_order_of_names(search.files), in_order_of_names(others), search.left_out, bounds, unused)
 
 
-def error_of_name(path: str, endings: Sequence[str]) -> DnormError | None:
-    """Returns the error of a file whose name stands for no text that can be read, although it begins like one."""
-    reason = misnamed_text(path, endings)
-    return Read(path, reason) if reason else None
-
-
-def error_of_type(path: str) -> DnormError | None:
-    """Returns the error of what is found and is neither a file nor a link, as a pipe: it is not opened, which could
-    wait without end."""
+def error_of(path: str, endings: Sequence[str]) -> DnormError | None:
+    """Returns the error of what is found under the name of a text, and is not opened: a file that is not decompressed,
+    and a pipe, for which opening could wait without end."""
+    reason = unread_text(path, endings)
+    if reason:
+        return Read(path, reason, EXCLUDES)
     is_none = not os.path.isfile(path) and os.path.exists(path)
-    return Read(path, "it is neither a file nor a link to one") if is_none else None
+    return Read(path, NO_FILE, EXCLUDES) if is_none else None
 
 
 def in_order_of_names(found: dict[str, Result]) -> dict[str, Result]:
@@ -76,7 +92,7 @@ class Search:
     """What a search finds, as `Found` has it."""
 
     def __init__(self, endings: Sequence[str], excluded: Sequence[str]) -> None:
-        self.endings, self.excluded, self.left_out = endings, excluded, 0
+        self.endings, self.excluded, self.left_out, self.used = endings, excluded, 0, set[str]()
         self.files: Files = {}
         self.others: dict[str, str] = {}
 
@@ -88,23 +104,34 @@ class Search:
         for at, folders, names in os.walk(folder, onerror=errors.append):
             folders[:] = [it for it in folders if self.is_wanted(folder, at, it)]
             links = [os.path.join(at, it) for it in folders if os.path.islink(os.path.join(at, it))]
-            self.others.update(dict.fromkeys(links, "it is a link to a folder, which is not followed"))
+            self.others.update(dict.fromkeys(links, LINK_TO_FOLDER))
             for path in (os.path.join(at, it) for it in names if self.is_wanted(folder, at, it)):
-                if is_text(path, self.endings) or misnamed_text(path, self.endings):
-                    files[path] = error_of_name(path, self.endings) or error_of_type(path)
-                else:
-                    self.others[path] = "its name does not end like that of a DIMACS text"
+                self.take(path, files)
         unread = {os.fsdecode(it.filename): reason_of(it) for it in errors}
         return files | {name: Read(name, reason) for name, reason in unread.items()}
+
+    def take(self, path: str, files: Optional[Files] = None) -> None:
+        """Adds what was found at a path to the files, or else to the other files."""
+        if os.path.isdir(path):
+            self.others[path] = LINK_TO_FOLDER
+        elif is_text(path, self.endings) or unread_text(path, self.endings):
+            (self.files if files is None else files)[path] = error_of(path, self.endings)
+        else:
+            self.others[path] = "its name does not end like that of a DIMACS text"
 
     def is_wanted(self, folder: str, at: str, name: str) -> bool:
         """Whether a file or folder of this name is neither excluded nor of version control."""
         if name in HIDDEN or name == CVS and os.path.isfile(os.path.join(at, name, CVS_LIST)):
             return False
-        names = (name, os.path.relpath(os.path.join(at, name), folder)) if self.excluded else ()
-        is_excluded = any(fnmatchcase(it, pattern) for it in names for pattern in self.excluded)
-        self.left_out += is_excluded
-        return not is_excluded
+        path = os.path.relpath(os.path.join(at, name), folder) if self.excluded else ""
+        return not self.leaves_out(path)
+
+    def leaves_out(self, path: str) -> bool:
+        """Whether a pattern excludes a path, which is then counted."""
+        pattern = is_excluded(path, self.excluded)
+        self.used |= {pattern or ""}
+        self.left_out += pattern is not None
+        return pattern is not None
 
 
 @dataclass(frozen=True, repr=False)
@@ -136,16 +163,21 @@ class Collection:
 
 
 def check_folder(
-    *paths: Union[str, os.PathLike[str]], exclude: Sequence[str] = (), form: Form = 1, timeout: Optional[float] = None
+    *paths: Union[str, os.PathLike[str]],
+    exclude: Sequence[str] = (),
+    form: Form = 1,
+    timeout: Optional[float] = None,
+    follow: bool = False,
 ) -> Collection:
     """Checks the texts of folders, and that companions fit the graphs of their names, as `dnorm-files check
     --companions` does. Reads each file once, as many at the same time as there are processors. Raises no error for a
-    file that is refused, cannot be read, or takes more than `timeout` seconds: its record has it."""
+    file that is refused, cannot be read, or takes more than `timeout` seconds: its record has it. Links lead to files
+    of these folders, unless `follow` is true."""
     form = checked_form(form)
     if timeout is not None:
         check_seconds(timeout)
-    found = find([os.fspath(it) for it in paths], ENDINGS, exclude)
-    reading = Reading(form, Partners(found.files), timeout=timeout)
+    found = find([os.fspath(it) for it in paths], ENDINGS, exclude, follow=follow)
+    reading = Reading(form, Partners(found.files), timeout=timeout, bounds=found.bounds)
 
     def record(name: str) -> Record:
         error = found.files[name]

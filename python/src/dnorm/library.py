@@ -16,6 +16,7 @@ from itertools import starmap
 from typing import Any, cast
 
 from .answers import AnyDifference, Difference, Same
+from .causes import Cause
 from .columns import column
 from .errors import DnormError, Endless, Memory, NoLibrary, Refused
 from .files import Text
@@ -29,9 +30,16 @@ from .refusals import REFUSALS
 ABI = 3
 NAME = f"libdnorm.so.{ABI}"
 NAMES = [NAME, *(f"libdnorm{it}" for it in EXTENSION_SUFFIXES)]
-# Where the library is, from here, but for that of a wheel, which has any of the names: in an archive; in a clone; below
-# the prefix of `./install`; on Debian.
-PLACES = ["../../../lib", "../../../c/out/lib", "../../../../lib", f"../../../{platform.machine()}-linux-gnu"]
+# Where the library is, from here, but for that of a wheel, which has any of the names: in an archive; in a clone, which
+# has built one or has the released ones; below the prefix of `bin/install`; on Debian.
+MACHINE = platform.machine()
+PLACES = [
+    "../../../lib",
+    "../../../build",
+    f"../../../released/{MACHINE}",
+    "../../../../lib",
+    f"../../../{MACHINE}-linux-gnu",
+]
 # Kinds by their numbers.
 KINDS = ["", "min", "max", "sp", "ss", "p2p", "co"]
 GRAPHS = ("min", "max", "sp")
@@ -324,6 +332,6 @@ def error_of(status: Any, text: Text) -> DnormError:
 
 def refused(text: Text, line: int | None, number: int, node: int | None = None) -> Refused:
     """Returns a refusal of a text, with its cause if that can be found."""
-    cause = text.cause(line, number, node)
-    more = (cause.text, "\n".join(cause.hints) or None) if cause else ()
-    return Refused(text.name, line, number, REFUSALS[number][0], node, *more)
+    found = text.cause(line, number, node) or Cause(None, None, [])
+    hint = "\n".join(found.hints) or None
+    return Refused(text.name, line, number, REFUSALS[number][0], node, found.text, hint, found.mark)

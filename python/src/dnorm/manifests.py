@@ -19,9 +19,10 @@ from .limits import Limit
 from .names import KINDS
 from .records import Record
 
-# The line that says the form of the checksums, and how many files the manifest lists. Earlier versions wrote no number,
-# and for form 1 no line.
-HEAD = re.compile(r"# form ([12])(?:, ([0-9]+) files?)?")
+# The line that says the form of the checksums, how many files the manifest lists, and that these are not the checksums
+# of the files, as sha256sum wants them. Earlier versions wrote no such words, no number, and for form 1 no line.
+ABOUT = ": checksums of canonical texts, for dnorm-files manifest --verify"
+HEAD = re.compile(rf"# form ([12])(?:, ([0-9]+) files?(?:{ABOUT})?)?")
 # The line that earlier versions wrote before the line of a file, with its size, its time and its kind.
 EARLIER = re.compile(rf"# file -?[0-9]+ -?[0-9]+ ({'|'.join(dict.fromkeys(KINDS.values()))})")
 ENTRY = re.compile(r"(\\?)([0-9a-f]{64})  (.+)", re.S)
@@ -112,7 +113,7 @@ def text_of(entries: Iterable[Entry], form: int, has_marks: bool = False) -> str
             line = f"{line[:-1]}\t# {' '.join(map(str, it.mark))} "
             line += f"{sum_of(form, line)}\n"
         lines.append(line)
-    return f"# form {form}, {len(lines)} {'file' if len(lines) == 1 else 'files'}\n" + "".join(lines)
+    return f"# form {form}, {len(lines)} {'file' if len(lines) == 1 else 'files'}{ABOUT}\n" + "".join(lines)
 
 
 def entries_of(text: str) -> tuple[dict[str, Entry], bool]:

@@ -6,22 +6,21 @@ from __future__ import annotations
 import functools
 import os
 import re
-from collections.abc import Sequence
+from collections.abc import Iterable, Sequence
+from fnmatch import fnmatchcase
+from typing import Optional
 
 # The kinds of texts by the ends of their names.
 KINDS = {".gr": "sp", ".sp": "sp", ".min": "min", ".max": "max", ".ss": "ss", ".p2p": "p2p", ".co": "co"}
 COMPANIONS = (".ss", ".p2p", ".co")
 ENDINGS = (*KINDS,)
+# What version control keeps for itself: branches can have names like texts.
+HIDDEN = {".git", ".hg", ".svn", ".bzr", ".jj", "_darcs"}
 # The compressions that are read and written, and others by what they are called.
 COMPRESSIONS = (".gz", ".bz2", ".xz", ".zst")
 OTHERS = {".z": "compress", ".lz4": "lz4", ".zip": "zip", ".br": "brotli", ".7z": "7-Zip", ".lzma": "lzma"}
 OTHERS |= {".lz": "lzip", ".lzo": "lzop", ".tar": "tar", ".rar": "rar"}
 OTHERS |= {it: it for it in (".gzip", ".bzip2", ".bz", ".zstd", ".tgz", ".tbz", ".tbz2", ".txz", ".tzst")}
-# What people put behind the ending of a file that they keep beside a newer one, or cut into parts: a number, or such a
-# word. Other letters make another ending, as in .grid.
-KEPT = r"(?:[0-9]|bak|copy|new|old|orig|save|tmp)[0-9]*(?![a-z0-9])"
-# Minified pages of the web have the ending of a `min` text before their own.
-MINIFIED = re.compile(r"\.min\.(?:[cm]?js|css|html?|svg|json)(?:\.map)?(?:\.gz|\.br)?")
 
 
 def ending_of(name: str) -> str:
@@ -49,38 +48,52 @@ def is_text(name: str, endings: Sequence[str] = ENDINGS) -> bool:
     return name.lower().endswith(ends_of(tuple(endings)))
 
 
+def packed_of(name: str) -> tuple[str, str]:
+    """Returns a name without the endings of compressions, and these endings."""
+    ending = ending_of(name)
+    if ending not in COMPRESSIONS and ending not in OTHERS:
+        return name, ""
+    plain, packed = packed_of(name[: -len(ending)])
+    return plain, packed + ending
+
+
 def unknown_compression(name: str) -> str:
     """Returns why a file of this name is not decompressed, or nothing if it is, or if it is not compressed."""
-    ending = ending_of(name)
-    if ending in COMPRESSIONS:
-        inner = ending_of(name[: -len(ending)])
-        return f"{inner}{ending} is not supported" if inner in COMPRESSIONS or inner in OTHERS else ""
-    return f"{OTHERS[ending]} is not supported" if ending in OTHERS else ""
+    _, packed = packed_of(name)
+    return "" if packed in ("", *COMPRESSIONS) else f"{OTHERS.get(packed, packed)} is not supported"
 
 
-@functools.lru_cache(maxsize=None)
-def more_after(endings: tuple[str, ...]) -> re.Pattern[str]:
-    """Returns an expression for the names that go on behind an ending by a sign, as `~`, by a number or by a word such
-    as `old`, to their end or up to the ending of a compression."""
-    ends, packed = ("|".join(map(re.escape, it)) for it in (endings, COMPRESSIONS))
-    return re.compile(rf"({ends.lower()})(?:[^a-z0-9.]|{KEPT})[^.]*(?:{packed})?\Z")
-
-
-def misnamed_text(name: str, endings: Sequence[str] = ENDINGS) -> str:
-    """Returns why a file that is found is no text, although its name promises one; or nothing."""
-    found = more_after(tuple(endings)).search(os.path.basename(name).lower())
-    return unknown_text(name, endings) or (f"its name goes on behind {found[1]}" if found else "")
-
-
-def unknown_text(name: str, endings: Sequence[str] = ENDINGS) -> str:
-    """Returns why a file of this name is no text, although the ending of one is in the name; or nothing."""
-    if is_text(name, endings):
-        return ""
-    lower = os.path.basename(name).lower()
+def unread_text(name: str, endings: Sequence[str] = ENDINGS) -> str:
+    """Returns why the text that a name stands for is not read: what follows its ending is a compression that is not
+    supported, or several. Returns nothing for any other name."""
+    plain = packed_of(os.path.basename(name))[0].lower()
     # As .svgz is the ending of a compressed .svg.
-    if lower.endswith(tuple(f"{it.lower()}z" for it in endings)):
-        return f"{ending_of(name)} is not supported"
-    ends = [at + len(it) for it in endings if (at := lower.rfind(f"{it.lower()}.")) >= 0]
-    if not ends or MINIFIED.fullmatch(lower, max(ends) - len(".min")):
-        return ""
-    return unknown_compression(name) or f"{lower[max(ends):]} is not supported"
+    if plain.endswith(tuple(f"{it.lower()}z" for it in endings)):
+        return f"{ending_of(plain)} is not supported"
+    return unknown_compression(name) if plain.endswith(tuple(map(str.lower, endings))) else ""
+
+
+def stem_of(name: str) -> str:
+    """Returns the name that a graph and its companions share, without their endings. As in the Ninth Challenge, a graph
+    of distances and one of travel times share those of USA-road-d.NY and USA-road-t.NY."""
+    return re.sub(r"-[dt](?=(\.[^/.]*)?$)", "-", parts_of(name)[0])
+
+
+def real(path: str) -> str:
+    """Returns the real path of a file, or the path itself where the current folder is gone."""
+    try:
+        return os.path.realpath(path)
+    except OSError:
+        return path
+
+
+def place_of(name: str) -> str:
+    """Returns the path of a file by which names of it are compared: in its real folder, where it may be a link."""
+    return os.path.join(real(os.path.dirname(name)), os.path.basename(name))
+
+
+def is_excluded(path: str, patterns: Iterable[str]) -> Optional[str]:
+    """Returns the first pattern that matches a path, a folder of it, or the name of either; or None."""
+    parts = path.split("/")
+    names = {*parts, *("/".join(parts[:at]) for at in range(1, len(parts) + 1))}
+    return next((it for it in patterns if any(fnmatchcase(name, it.rstrip("/")) for name in names)), None)

@@ -8,11 +8,11 @@ from collections.abc import Sequence
 
 from .errors import NoProgram
 
-# Where the page on the commands and calls is, from here: in a wheel, in a clone or an archive, and where `./install`
+# Where the page on the commands and calls is, from here: in a wheel, in a clone or an archive, and where `bin/install`
 # and Debian put it; where the program is, in a clone or an archive, and where pip and these put it; and where the files
 # of pages of HTML are.
 PAGES = ["", "../../../docs", "../../../doc/dnorm/docs", "../../../../share/doc/dnorm/docs"]
-PROGRAMS = ["../../..", "../../../../bin"]
+PROGRAMS = ["../../../bin", "../../..", "../../../../bin"]
 WEB = ["", "../../../web", "../../web", "../../../../share/dnorm/web"]
 
 

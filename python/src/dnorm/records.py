@@ -17,11 +17,11 @@ from .answers import Form
 from .calls import SummedText, forms_of
 from .columns import Column, least_and_greatest, numpy_here
 from .errors import DnormError, Read, Refused
-from .files import Text, enough_memory, reason_of
+from .files import Bounds, Copied, Text, enough_memory, reason_of
 from .instances import AnyInstance, Co, Graph, Min
 from .library import GRAPHS, Held, held
 from .limits import Limit
-from .names import COMPANIONS, KINDS, parts_of
+from .names import COMPANIONS, KINDS, parts_of, stem_of
 from .pairs import VALUES
 from .reader import instance_by
 
@@ -122,7 +122,7 @@ class Record(NamedTuple):
         found: dict[str, object] = {it: getattr(self, it) for it in ("name", "status", "kind", "forms")}
         found["error"] = f"{self.name}{self.what}" if self.error else None
         # Only a refusal has these.
-        found |= {it: getattr(self.error, it, None) for it in ("line", "number", "word", "sentence", "text")}
+        found |= {it: getattr(self.error, it, None) for it in ("line", "number", "word", "sentence", "text", "mark")}
         found |= {it: getattr(self, it) for it in ("hint", "remarks", *SIZES, "checksum", "graphs")}
         found["not_accepted"] = None if self.graphs is None else self.not_accepted
         found["seconds"] = round(self.seconds, 6)
@@ -159,34 +159,35 @@ class Partners:
             with contextlib.suppress(OSError):
                 found.update(os.path.join(folder, it) for it in os.listdir(folder or "."))
         for name in sorted(found):
-            stem, ending = parts_of(name)
+            ending = parts_of(name)[1]
             if ending in WITH_COMPANIONS:
-                self.graphs[stem].append(name)
+                self.graphs[stem_of(name)].append(name)
             elif ending in COMPANIONS:
-                self.companions[stem].append(name)
+                self.companions[stem_of(name)].append(name)
 
     def companions_of(self, name: str) -> list[str]:
-        stem, ending = parts_of(name)
-        return self.companions.get(stem, []) if ending in WITH_COMPANIONS else []
+        return self.companions.get(stem_of(name), []) if parts_of(name)[1] in WITH_COMPANIONS else []
 
     def graphs_of(self, name: str) -> Optional[list[str]]:
-        """Returns the graphs of a companion, and None for any other file."""
+        """Returns the graphs of a companion, those of its own name if there are some, and None for any other file."""
         stem, ending = parts_of(name)
-        return self.graphs.get(stem, []) if ending in COMPANIONS else None
+        graphs = self.graphs.get(stem_of(name), [])
+        return ([it for it in graphs if parts_of(it)[0] == stem] or graphs) if ending in COMPANIONS else None
 
 
 @dataclass(frozen=True)
 class Reading:
     """How files are read. Checksums and sizes are those of the canonical text in a `form`. A record tells the kind
     alone, or the checksum, too; or it is whole, or has contents besides. With partners, companions are checked beside
-    their graphs. If it is strict, a file with a remark has an error, and so has one that takes more than `timeout`
-    seconds."""
+    their graphs. Files that nobody named are opened within bounds. If it is strict, a file with a remark has an error,
+    and so has one that takes more than `timeout` seconds."""
 
     form: Form = 1
     partners: Optional[Partners] = None
     is_strict: bool = False
     tells: Tells = "whole"
     timeout: Optional[float] = None
+    bounds: Optional[Bounds] = None
 
     def record(self, name: str) -> Record:
         """Reads a file, and returns its record, also if that fails."""
@@ -214,7 +215,7 @@ class Reading:
         limit = Limit(self.timeout, name)
         with contextlib.ExitStack() as stack:
             is_whole = self.tells in ("whole", "contents")
-            text = SummedText(name, stack, limit) if is_whole else Text(name, stack, limit)
+            text = (SummedText if is_whole else Text)(Copied() if name == "-" else name, stack, limit, self.bounds)
             it = stack.enter_context(held(text))
             found, checksum = Record(name, it.kind), functools.cache(it.checksum)
             if self.tells != "kind":
@@ -228,25 +229,24 @@ class Reading:
             if self.tells == "contents":
                 found = found._replace(contents=contents_of(instance_by(it, self.form)))
             if graphs is not None:
-                fits, others = fitting(graphs, it, limit)
+                fits, others = self._fitting(graphs, it, limit)
                 found = found._replace(graphs=fits, not_accepted=others)
         return found
 
-
-def fitting(graphs: Iterable[str], it: Held, limit: Limit) -> tuple[tuple[str, ...], tuple[str, ...]]:
-    """Returns which graphs a companion fits, and which are refused or cannot be read. Raises Refused if the companion,
-    the file of the limit, does not fit one."""
-    fits, others = [], []
-    for graph in graphs:
-        try:
-            with contextlib.ExitStack() as stack:
-                stack.enter_context(held(Text(graph, stack, limit))).check_fit(it)
-            fits.append(graph)
-        except (Refused, Read) as error:
-            if error.name == limit.name:
-                raise
-            others.append(graph)
-    return tuple(fits), tuple(others)
+    def _fitting(self, graphs: Iterable[str], it: Held, limit: Limit) -> tuple[tuple[str, ...], tuple[str, ...]]:
+        """Returns which graphs a companion fits, and which are refused or cannot be read. Raises Refused if the
+        companion, the file of the limit, does not fit one."""
+        fits, others = [], []
+        for graph in graphs:
+            try:
+                with contextlib.ExitStack() as stack:
+                    stack.enter_context(held(Text(graph, stack, limit, self.bounds))).check_fit(it)
+                fits.append(graph)
+            except (Refused, Read) as error:
+                if error.name == limit.name:
+                    raise
+                others.append(graph)
+        return tuple(fits), tuple(others)
 
 
 def without_arcs(it: Graph) -> int:

@@ -1,32 +1,9 @@
-"""The number, name and sentence of each refusal in dnorm help. `tools/lists --write` writes them."""
+"""The number, name and sentence of each refusal in dnorm help, of the table refusals.json."""
 
-REFUSALS = {
-    1: ("BadLine", "The first word is none of p, n, a, s, q and v."),
-    2: ("EarlyLine", "A line other than p precedes the problem line."),
-    3: ("SecondProblem", "There is a second problem line."),
-    4: ("UnknownProblem", "The problem line names none of the six kinds."),
-    5: ("WrongLine", "A file of this kind has no line with this letter."),
-    6: ("LateNode", "A node line follows an arc line."),
-    7: ("TooManyLines", "There are more counted lines than declared."),
-    8: ("FieldCount", "The line has too few or too many words."),
-    9: ("NotANumber", "A number field is no whole number in decimal digits."),
-    10: ("OutOfRange", "A number is below -2^63 or above 2^63-1."),
-    11: ("Negative", "NODES, ARCS, K, LOW or CAP is below 0."),
-    12: ("BadTerminal", "The third word of a max node line is neither s nor t."),
-    13: ("NodeOutOfRange", "A node is not in 1 to NODES; in a companion, below 1."),
-    14: ("RepeatedNode", "A node has a second node line or a second point, or there is a second source or sink."),
-    15: ("SameTerminal", "Source and sink are one node."),
-    16: ("LowAboveCap", "The lower bound LOW of an arc is above its capacity CAP."),
-    17: ("SumTooLarge", "The capacities from SRC to DST sum to more than 2^63-1."),
-    18: ("NoProblem", "There is no problem line."),
-    19: ("MissingTerminal", "A max file has no source or no sink."),
-    20: ("TooFewLines", "There are fewer counted lines than declared."),
-    21: ("TooLong", "The line's number is 2^63-1."),
-    30: ("Memory", "The system or a limit refused more memory."),
-    31: ("Read", "The file could not be opened, or reading it failed."),
-    32: ("Endless", "The file has no end: 2^40 reads returned bytes."),
-    33: ("Write", "Writing to standard output failed."),
-    34: ("CountTooLarge", "The canonical text has more than 2^63-1 counted lines."),
-    35: ("NotInGraph", "The companion names a node above NODES of the graph."),
-    36: ("NotKinds", "FILE is not an sp graph, or COMPANION is no companion."),
-}
+import json
+import os
+
+with open(os.path.join(os.path.dirname(__file__), "refusals.json"), encoding="utf-8") as _table:
+    REFUSALS: "dict[int, tuple[str, str]]" = {
+        it["number"]: (it["name"], it["sentence"]) for it in json.load(_table)["refusals"]
+    }

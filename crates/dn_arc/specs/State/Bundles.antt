@@ -2,7 +2,7 @@
 use Rattle.std.specs.Prelude.{◌≡◌, ℕ, ◌+◌, ◌-◌, ◌^◌, ℤ, pos, ◌+ℤ◌, ◌≤ℤ◌, ◌<ℤ◌, List, [], ◌∷◌, ◌++◌, slice_get, Bool, Option, Some, None, MatchOption, FitsSigned}
 use Rattle.std.specs.Int.{w64}
 use Rattle.std.specs.List.{AllByRecursion}
-use Rattle.dn_arc.specs.Entries.{ArcSizes}
+use Rattle.dn_arc.specs.State.Sizes.{ArcSizes}
 use Rattle.dn_arc.specs.Kinds.{ArcKind}
 use Rattle.dn_arc.specs.State.CanonArcs.{NeedsMore}
 use Rattle.dn_arc.specs.State.Equivalences.{IsMeaning}
@@ -32,9 +32,7 @@ pub record IsKind {Arc : Type 0} (kind : ArcKind Arc) : Type 0 where
   -- having the same meaning is an equivalence that ignores the order of arcs, and adding one arc to both lists keeps it
   pub meaning : IsMeaning kind.Same
   -- the numbers of an arc determine the arc
-  pub arc_of_numbers : (a : Arc) → kind.arc_of (kind.numbers a) ≡ Some a
-  -- an arc made from numbers has these numbers
-  pub numbers_of_arc : (ns : List ℤ) (a : Arc) → kind.arc_of ns ≡ Some a → kind.numbers a ≡ ns
+  pub one_arc : (a b : Arc) → kind.numbers a ≡ kind.numbers b → a ≡ b
   -- the capacity of two lists is the sum of their capacities
   pub capacity_append : (xs ys : List Arc) → kind.capacity (xs ++ ys) ≡ kind.capacity xs +ℤ kind.capacity ys
   pub capacity_some : (xs : List Arc) → AllByRecursion kind.IsArc xs → pos 0 ≤ℤ kind.capacity xs

@@ -1,7 +1,7 @@
 -- Canonical arcs that represent the arcs of one ordered pair, and which arc of a pair needs memory.
 use Rattle.std.specs.Prelude.{◌⊎◌, ◌<◌, List, [], ◌∷◌, ◌++◌}
 use Rattle.dn_arc.specs.declared.arc.Form.TheVariants.{One}
-use Rattle.dn_arc.specs.Entries.{ArcSizes}
+use Rattle.dn_arc.specs.State.Sizes.{ArcSizes}
 use Rattle.dn_arc.specs.Kinds.{ArcKind}
 
 -- canonical arcs in form 1 that mean the same as these arcs

@@ -1,5 +1,5 @@
 -- What the state of a reader of arc lines represents.
-use Rattle.std.specs.Prelude.{◌≡◌, ℕ, ◌+◌, ◌-◌, ◌^◌, ◌<◌, List, [], ◌∷◌, ◌++◌, length, cond, Option, None, is_some}
+use Rattle.std.specs.Prelude.{◌≡◌, ℕ, ◌+◌, ◌-◌, ◌^◌, ◌<◌, List, [], ◌∷◌, ◌++◌, length, cond, Option, Some, None, is_some}
 use Rattle.std.specs.Option.{option_map}
 use Rattle.dn_line.specs.declared.kind.Kind.{Kind}
 use Rattle.dn_line.specs.declared.code.Code.{Code}
@@ -33,10 +33,11 @@ pub record Counted (known : Option Kind) (number : ℕ) (fault : Option Code) (l
 abbrev pub HasLines : ArcLines → List (List ℕ) → Type 0
 HasLines r ls = Counted r.known r.number r.fault ls
 
--- the reader represents these bytes
+-- the reader represents these bytes; if it has stopped at a line, no byte follows that line
 pub record ArcLinesAt (r : ArcLines) (t : List ℕ) : Type 0 where
   pub read : HasLines r (ended t)
   pub line : HasOpen r.line (open_of t)
+  pub stops : (code : Code) → fault_of r ≡ Some code → open_of t ≡ []
 
 -- the reader has taken these lines after the earlier ones, and `out` is the front followed by their arc lines
 pub record Adds (r : ArcLines) (ls more : List (List ℕ)) (front out : List ArcLine) : Type 0 where

@@ -6,7 +6,7 @@ use Rattle.dn_bundle.specs.State.Listings.{least_arcs, total_arcs, curve_arcs}
 use Rattle.dn_instance.specs.Instances.{Instance, MinCostFlow, MaxFlow, ShortestPaths, Sources, Queries, Coordinates}
 use Rattle.dn_instance.specs.State.Helds.{Contents, OfMin, OfMax, OfSp}
 use Rattle.dn_c.specs.State.Items.{flow_item, point_item, id_item, pair_item, left_items}
-use Rattle.dn_c.specs.State.Outputs.{CopiesGraph}
+use Rattle.dn_c.specs.State.Outputs.{CopiesGraph, CountsGraph}
 use Rattle.dn_c.specs.State.Places.{cost_at, cap_at, length_at}
 use Rattle.dn_c.specs.State.Rows.{rows_by}
 use Rattle.dn_c.specs.State.Walks.{IsLeftAfter}
@@ -77,5 +77,8 @@ pub record GivesOut (form : Form) (contents : Contents) (J : Instance) : Type 0 
   -- and calls from there on, until one copies fewer arcs than there is room for, copy them
   pub walk : (calls : List Call) → WalksGraph form contents first_place calls
       → flat_map copied calls ≡ instance_rows J
+  -- dnorm_arc_count tells how many they are, if there are fewer than 2^64
+  pub count : (result : Count) → CountsGraph form contents result → result.code ≡ 0
+      → result.count ≡ length (instance_rows J)
   -- its items are left after the place of zeros, which each call of dnorm_items moves behind what it copies
   pub items : left_items contents first_place ≡ instance_items J

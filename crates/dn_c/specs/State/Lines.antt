@@ -1,5 +1,5 @@
 -- What a call that reads arc lines does.
-use Rattle.std.specs.Prelude.{◌≡◌, ℕ, List, [], ◌++◌, ◌⊎◌, take, length, Option, Some, None}
+use Rattle.std.specs.Prelude.{◌≡◌, ℕ, List, [], ◌++◌, ◌⊎◌, take, drop, length, Option, Some, None}
 use Rattle.dn_line.specs.declared.code.Code.{Code}
 use Rattle.dn_line.specs.Names.{code_number}
 use Rattle.dn_instance.specs.declared.refusal.Refusal.TheVariants.{Memory}
@@ -33,10 +33,12 @@ GivesLines r piece r' out result =
     × (result.code ≡ 0 → (result.used ≡ length piece) ⊎ (result.count ≡ length out))
     × ((code : Code) → fault_of r ≡ Some code → (result.used ≡ 0) × (result.count ≡ 0) × (r' ≡ r))
 
--- what feeding a piece does to a reader of arc lines; for any other work nothing changes
+-- what feeding a piece does to a reader of arc lines; what follows the arc lines in `out` stays; for any other work
+-- nothing changes
 abbrev pub TakesLines : Work → List ℕ → Work → List ArcLine → List ArcLine → Lines → Type 0
 TakesLines (Works.Lines r) piece new old out result =
     (r' : ArcLines) × (new ≡ Works.Lines r') × GivesLines r piece r' out result
+    × (drop result.count out ≡ drop result.count old)
 TakesLines work piece new old out result = (new ≡ work) × (out ≡ old) × (result ≡ no_lines)
 
 -- the same of what a handle holds, if anything

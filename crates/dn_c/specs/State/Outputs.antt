@@ -81,9 +81,11 @@ Copies all old new result = (result.code ≡ 0) × (take result.count new ≡ ta
 abbrev pub IsIdle : {A : Type 0} → List A → List A → Count → Type 0
 IsIdle old new result = (result ≡ wrong_count) × (new ≡ old)
 
--- the bytes of the text from the one at `from`, counted from 0, are copied; any other work has none
+-- the bytes of the text from the one at `from`, counted from 0, are copied, and what follows them stays; any other work
+-- has none
 abbrev pub CopiesText : Option Work → ℕ → List ℕ → List ℕ → Count → Type 0
-CopiesText (Some (Works.Text text)) from old new result = Copies (drop from text.items) old new result
+CopiesText (Some (Works.Text text)) from old new result =
+    Copies (drop from text.items) old new result × (drop result.count new ≡ drop result.count old)
 CopiesText _ from old new result = IsIdle old new result
 
 -- the canonical text of a parsed instance in this form, or why there is none

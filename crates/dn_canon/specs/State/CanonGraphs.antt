@@ -10,4 +10,4 @@ use Rattle.dn_canon.specs.CanonInstances.{IsCanonGraph}
 pub record IsCanonGraphOf {Arc : Type 0} (kind : ArcKind Arc) (form : Form) (H G : Graph Arc) : Type 0 where
   pub valid : IsValidGraph kind H
   pub canonical : IsCanonGraph kind form H
-  pub same : SameGraph kind G H
+  pub same : SameGraph kind.Same G H

@@ -8,7 +8,7 @@ use Rattle.dn_line.specs.declared.kind.Kind.{Kind}
 use Rattle.dn_line.specs.declared.line.Line.{Line}
 use Rattle.dn_line.specs.declared.row.Row.{Row}
 use Rattle.dn_line.specs.declared.row_block.RowLine.{RowLine}
-use Rattle.dn_arc.specs.Entries.{ArcSizes}
+use Rattle.dn_arc.specs.State.Sizes.{ArcSizes}
 use Rattle.dn_arc.specs.Kinds.{ArcKind}
 use Rattle.dn_nodes.specs.State.Nodes.{Nodes, is_known}
 use Rattle.dn_table.specs.State.Tables.{AreArcs, GraphNeedsMore, Stays, TableLists}

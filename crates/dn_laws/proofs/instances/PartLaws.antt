@@ -65,8 +65,8 @@ pub record IsMaking {Arc : Type 0} (kind : ArcKind Arc) (make : Graph Arc → In
   pub head_is : (G H : Graph Arc) → G.nodes ≡ H.nodes → SameHead (make G) (make H)
   pub lines_are : (G : Graph Arc) → arc_lines (make G) ≡ graph_lines kind G
   pub size_is : (G : Graph Arc) → size_of (make G) ≡ length G.arcs
-  pub same_graph : (G H : Graph Arc) → IsSame (make G) (make H) → SameGraph kind G H
-  pub make_same : (G H : Graph Arc) → SameGraph kind G H → IsSame (make G) (make H)
+  pub same_graph : (G H : Graph Arc) → IsSame (make G) (make H) → SameGraph kind.Same G H
+  pub make_same : (G H : Graph Arc) → SameGraph kind.Same G H → IsSame (make G) (make H)
   pub valid_graph : (G : Graph Arc) → IsValid (make G) → IsValidGraph kind G
   pub make_valid : (G H : Graph Arc) → G.nodes ≡ H.nodes → IsValid (make G) → IsValidGraph kind H → IsValid (make H)
 
@@ -142,7 +142,7 @@ module _ {Arc : Type 0} {kind : ArcKind Arc} {make : Graph Arc → Instance} (ma
       let first : line (p, x) ≡ line (q, y) = cc in
       let pair : p ≡ q = ap (λ (l : (ℤ × ℤ) × List ℤ). l.0) first in
       let numbers : kind.numbers x ≡ kind.numbers y = ap (λ (l : (ℤ × ℤ) × List ℤ). l.1) first in
-      let arc : x ≡ y = cc (making.kind_laws.arc_of_numbers x, making.kind_laws.arc_of_numbers y) in
+      let arc : x ≡ y = making.kind_laws.one_arc x y numbers in
       let rest : xs ≡ ys = lines_one xs ys cc in
       cc
 

@@ -74,7 +74,7 @@ module _ {Arc : Type 0} {kind : ArcKind Arc} {make : Graph Arc → Instance} (ma
       (placed_all n Hs e.1 v.1)
 
   -- a graph with the meaning of a valid one is valid, if its arcs are placed
-  valid_over : (G K : Graph Arc) → SameGraph kind G K → IsValidGraph kind G
+  valid_over : (G K : Graph Arc) → SameGraph kind.Same G K → IsValidGraph kind G
       → AllByRecursion (IsPlaced kind K.nodes) K.arcs → IsValidGraph kind K
   valid_over G K s v p =
       let are : (H : Graph Arc) → AllByRecursion (IsPlaced kind H.nodes) H.arcs → (q : ℤ × ℤ)

@@ -69,7 +69,7 @@ pub canonical_here : (form : Form) (arcs : List CostArc) → IsCanonInstance for
 canonical_here form arcs c = rw (bundle_at here arcs) at (c.canonical here)
 
 pub same_at : (xs ys : List CostArc) → SameCurve xs ys
-    → SameGraph costs (record { nodes = pos 2; arcs = placed here xs })
+    → SameGraph costs.Same (record { nodes = pos 2; arcs = placed here xs })
     (record { nodes = pos 2; arcs = placed here ys })
 same_at xs ys s = record { nodes = refl; bundles = at }
   where

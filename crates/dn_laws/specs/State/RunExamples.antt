@@ -2,9 +2,8 @@
 use Rattle.std.specs.Prelude.{◌≡◌, ◌⊎◌, ℕ, List, [], ◌∷◌, Option, Some, cond, codes, false, true}
 use Rattle.std.specs.Str.{bytes_eq}
 use Rattle.dn_sink.specs.Sinks.{SinkFacts}
-use Rattle.dn_run.specs.Details.{in_brief}
+use Rattle.dn_run.specs.Statuses.{RanPlain}
 use Rattle.dn_run.specs.Streams.{SinkRun, sink_run}
-use Rattle.dn_run.specs.Words.{Ran}
 
 -- a sink is the list of the bytes that it took
 abbrev pub kept : SinkFacts (List ℕ)
@@ -16,7 +15,7 @@ took bytes = sink_run kept ([], bytes)
 
 -- a run with these words, after the program's name, over texts with these bytes behind their names
 abbrev pub RunOf : List (List ℕ) → (List ℕ → Option (List ℕ)) → List ℕ → List ℕ → ℕ → Type 0
-RunOf words behind out err status = Ran (codes "dnorm" ∷ words) (in_brief behind) (took out) (took err) status
+RunOf words behind out err status = RanPlain (codes "dnorm" ∷ words) behind (took out) (took err) status
 
 -- the run ends with this status and these bytes on `out` and `err`; or it ends with status 4
 abbrev pub Gives : ℕ → List ℕ → List ℕ → List ℕ → List ℕ → ℕ → Type 0

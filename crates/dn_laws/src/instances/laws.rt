@@ -1,23 +1,29 @@
 // Laws of texts and instances.
-ghost use Rattle.std.specs.Prelude.{◌≡◌, ◌⊎◌, ℕ, ℤ, List, ◌∷◌, ◌++◌, map};
+ghost use Rattle.std.specs.Prelude.{◌≡◌, ◌⊎◌, ◌<◌, ◌-◌, ◌^◌, ℕ, ℤ, List, ◌∷◌, ◌++◌, length, map, true};
+ghost use Rattle.std.specs.List.{AllByRecursion};
 ghost use Rattle.std.specs.List.Sorted.{IsPermutation, IsStrictlySortedBy};
 ghost use Rattle.std.specs.Ordering.{nat_cmp};
+ghost use Rattle.dn_line.specs.Pieces.{lines};
 ghost use Rattle.dn_line.specs.State.Ranks.{code_rank};
+ghost use Rattle.dn_line.specs.Words.{is_blank, words};
 ghost use Rattle.dn_line.specs.declared.code.Code.{Code};
 ghost use Rattle.dn_line.specs.declared.line.Line.{Line};
 ghost use Rattle.dn_line.specs.declared.word.Word.{Word};
 ghost use Rattle.dn_arc.specs.declared.arc.LengthArc.{LengthArc};
 ghost use Rattle.dn_arc.specs.declared.arc.CapArc.{CapArc};
 ghost use Rattle.dn_arc.specs.declared.arc.CostArc.{CostArc};
-ghost use Rattle.dn_arc.specs.Kinds.{lengths, capacities, costs};
+ghost use Rattle.dn_arc.specs.Meanings.{SameLength, SameTotal, SameCurve};
 ghost use Rattle.dn_instance.specs.declared.refusal.Place.{Place};
+ghost use Rattle.dn_instance.specs.declared.refusal.Place.TheVariants as Places;
 ghost use Rattle.dn_instance.specs.State.Helds.{Parsed, IsHeld};
 ghost use Rattle.dn_instance.specs.Instances.{Instance};
 ghost use Rattle.dn_instance.specs.State.Parts.{AreParts, AreSame};
 ghost use Rattle.dn_instance.specs.Sameness.{IsSame, SameGraph};
 ghost use Rattle.dn_instance.specs.TextFaults.{is_too_long, line_tests, end_tests};
-ghost use Rattle.dn_instance.specs.Texts.{Reads, IsFirstFault};
+ghost use Rattle.dn_instance.specs.Texts.{Reads, IsFirstFault, IsFirstFaultAt};
+ghost use Rattle.dn_instance.specs.Readers.{ended};
 ghost use Rattle.dn_instance.specs.Validity.{IsValid};
+ghost use Rattle.dn_laws.specs.State.Contents.{IsArcLine, kept_words};
 
 /// A text reads as at most one instance.
 pub fn one_reading()
@@ -28,6 +34,30 @@ pub fn one_reading()
 pub fn one_first_fault()
     ensures place { (t : List ℕ) (p q : Place) (c d : Code) → IsFirstFault t p c → IsFirstFault t q d → p ≡ q }
     ensures code { (t : List ℕ) (p q : Place) (c d : Code) → IsFirstFault t p c → IsFirstFault t q d → c ≡ d }
+{}
+
+/// Comments and empty lines change nothing: texts whose other lines have words with the same meanings, in the same
+/// order, read as the same instance, if they have at most 2^63-2 lines. Nor does it matter how many blanks, tabs and
+/// CRs stand before, between and behind words.
+pub fn words_alone()
+    ensures lines { (t u : List ℕ) (I : Instance) → kept_words t ≡ kept_words u → length (lines u) < 2 ^ 63 - 1
+        → Reads t I → Reads u I }
+    ensures blanks { (l m : List ℕ) (b : ℕ) → is_blank b ≡ true → words (l ++ b ∷ m) ≡ words l ++ words m }
+{}
+
+/// The order of the arc lines does not matter: two texts that read as instances, and that are alike but for the order
+/// of the arc lines at their ends, comments and empty lines apart, pose the same problem.
+pub fn arc_lines_in_any_order()
+    ensures { (t u : List ℕ) (head arcs other : List (List Word)) (I J : Instance) → kept_words t ≡ head ++ arcs
+        → kept_words u ≡ head ++ other → IsPermutation arcs other → AllByRecursion IsArcLine arcs → Reads t I
+        → Reads u J → IsSame I J }
+{}
+
+/// Bytes behind a line with the first fault change nothing: if one of the complete lines of a text has its first fault,
+/// this is the first fault of each text that begins with these bytes.
+pub fn after_a_fault()
+    ensures { (t u : List ℕ) (n : ℕ) (c : Code) → IsFirstFaultAt (ended t) n c
+        → IsFirstFault (t ++ u) (Places.Line n) c }
 {}
 
 /// Ranks strictly rise along the tests of a line, and from there along those of the end of a text. So of two faults,
@@ -58,11 +88,11 @@ pub fn same_instance()
 /// The order of its arcs does not matter to a graph.
 pub fn any_order()
     ensures lengths { (nodes : ℤ) (xs ys : List ((ℤ × ℤ) × LengthArc)) → IsPermutation xs ys
-        → SameGraph lengths (record { nodes = nodes; arcs = xs }) (record { nodes = nodes; arcs = ys }) }
+        → SameGraph SameLength (record { nodes = nodes; arcs = xs }) (record { nodes = nodes; arcs = ys }) }
     ensures capacities { (nodes : ℤ) (xs ys : List ((ℤ × ℤ) × CapArc)) → IsPermutation xs ys
-        → SameGraph capacities (record { nodes = nodes; arcs = xs }) (record { nodes = nodes; arcs = ys }) }
+        → SameGraph SameTotal (record { nodes = nodes; arcs = xs }) (record { nodes = nodes; arcs = ys }) }
     ensures costs { (nodes : ℤ) (xs ys : List ((ℤ × ℤ) × CostArc)) → IsPermutation xs ys
-        → SameGraph costs (record { nodes = nodes; arcs = xs }) (record { nodes = nodes; arcs = ys }) }
+        → SameGraph SameCurve (record { nodes = nodes; arcs = xs }) (record { nodes = nodes; arcs = ys }) }
 {}
 
 /// Two graph problems that are made of parts are the same problem, if each part of one is the same problem as the part

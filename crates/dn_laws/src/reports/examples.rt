@@ -1,5 +1,5 @@
 // Worked reports.
-ghost use Rattle.std.specs.Prelude.{◌≡◌, true, false, None, Some, pos, negsuc, [], ◌∷◌, codes};
+ghost use Rattle.std.specs.Prelude.{◌≡◌, true, false, None, Some, pos, negsuc, [], ◌∷◌, ◌++◌, codes, flat_map};
 ghost use Rattle.dn_line.specs.declared.kind.Kind.{Kind};
 ghost use Rattle.dn_arc.specs.declared.difference.How.{How};
 ghost use Rattle.dn_instance.specs.Instances.{Sources, Queries, Coordinates};
@@ -10,7 +10,7 @@ ghost use Rattle.dn_laws.specs.State.DifferenceExamples.{some_costs, some_length
 ghost use Rattle.dn_sink.specs.Rows.{line_text, text_of};
 ghost use Rattle.dn_report.specs.Shows.{IsShown};
 ghost use Rattle.dn_report.specs.Checks.{checked_rows};
-ghost use Rattle.dn_report.specs.FaultLines.{fault_line, unfit_line};
+ghost use Rattle.dn_report.specs.FaultLines.{fault_line, reason_text, unfit_line};
 ghost use Rattle.dn_report.specs.Verdicts.{verdict_row};
 
 use dn_instance::{CompanionFault, Refusal};
@@ -67,7 +67,26 @@ pub fn fault_lines()
     ensures end { fault_line (codes "-") (Refusal.Text Places.End Code.NoProblem) ≡ codes "-:end: 18 NoProblem\n" }
     ensures read { fault_line (codes "missing") Refusal.Read ≡ codes "missing: 31 Read\n" }
     ensures memory { fault_line (codes "dnorm") Refusal.Memory ≡ codes "dnorm: 30 Memory\n" }
+    ensures endless { fault_line (codes "tty") Refusal.Endless ≡ codes "tty: 32 Endless\n" }
     ensures write { fault_line (codes "g.gr") Refusal.Write ≡ codes "out: 33 Write\n" }
+    ensures too_large { fault_line (codes "g.min") Refusal.CountTooLarge ≡ codes "g.min: 34 CountTooLarge\n" }
     ensures node { unfit_line (codes "c.co") (CompanionFault.NotInGraph (pos 4)) ≡ codes "c.co: 35 NotInGraph 4\n" }
     ensures unfit { unfit_line (codes "s.ss") CompanionFault.NotKinds ≡ codes "s.ss: 36 NotKinds\n" }
+{}
+
+/// The numbers and the names of all faults of texts.
+pub fn faults()
+    ensures of_lines { flat_map (λ code. reason_text (Refusal.Text Places.End code)) (Code.BadLine ∷ Code.EarlyLine
+        ∷ Code.SecondProblem ∷ Code.UnknownProblem ∷ Code.WrongLine ∷ Code.LateNode ∷ Code.TooManyLines ∷ [])
+        ≡ codes ": 1 BadLine\n: 2 EarlyLine\n: 3 SecondProblem\n: 4 UnknownProblem\n: 5 WrongLine\n: 6 LateNode\n"
+        ++ codes ": 7 TooManyLines\n" }
+    ensures of_fields { flat_map (λ code. reason_text (Refusal.Text Places.End code)) (Code.FieldCount
+        ∷ Code.NotANumber ∷ Code.OutOfRange ∷ Code.Negative ∷ Code.BadTerminal ∷ [])
+        ≡ codes ": 8 FieldCount\n: 9 NotANumber\n: 10 OutOfRange\n: 11 Negative\n: 12 BadTerminal\n" }
+    ensures of_items { flat_map (λ code. reason_text (Refusal.Text Places.End code)) (Code.NodeOutOfRange
+        ∷ Code.RepeatedNode ∷ Code.SameTerminal ∷ Code.LowAboveCap ∷ Code.SumTooLarge ∷ [])
+        ≡ codes ": 13 NodeOutOfRange\n: 14 RepeatedNode\n: 15 SameTerminal\n: 16 LowAboveCap\n: 17 SumTooLarge\n" }
+    ensures of_texts { flat_map (λ code. reason_text (Refusal.Text Places.End code)) (Code.NoProblem
+        ∷ Code.MissingTerminal ∷ Code.TooFewLines ∷ Code.TooLong ∷ [])
+        ≡ codes ": 18 NoProblem\n: 19 MissingTerminal\n: 20 TooFewLines\n: 21 TooLong\n" }
 {}

@@ -13,7 +13,7 @@ ghost use Rattle.dn_canon.specs.CanonInstances.{IsCanonInstanceOf};
 ghost use Rattle.dn_canon.specs.State.CanonReadings.{ReadsTwice};
 ghost use Rattle.dn_canon.specs.CanonTexts.{IsCanonOf, IsTooLarge};
 ghost use Rattle.dn_canon.specs.State.PartCanons.{HasCanonParts, AreRanges, arc_rows, gathered_rows, head_rows};
-ghost use Rattle.dn_canon.specs.Prints.{rows};
+ghost use Rattle.dn_canon.specs.Prints.{print, rows};
 ghost use Rattle.dn_sink.specs.Rows.{text_of};
 
 use dn_bundle::Form;
@@ -92,4 +92,11 @@ pub fn any_head(form: Form)
     ensures terminals { (a b s t : ℤ) (G H : Graph CapArc) → AreTerminals G.nodes s t
         → IsCanonInstanceOf form (MaxFlow a b H) (MaxFlow a b G)
         → IsCanonInstanceOf form (MaxFlow s t H) (MaxFlow s t G) }
+{}
+
+/// A valid instance whose printed text has at most 2^63-2 lines is what that text reads as, and no other valid instance
+/// has that text.
+pub fn printing()
+    ensures read { (I : Instance) → IsValid I → length (lines (print I)) < 2 ^ 63 - 1 → Reads (print I) I }
+    ensures one { (I J : Instance) → IsValid I → IsValid J → print I ≡ print J → I ≡ J }
 {}

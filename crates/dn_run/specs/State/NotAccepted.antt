@@ -5,7 +5,7 @@ use Rattle.dn_instance.specs.Instances.{Instance}
 use Rattle.dn_instance.specs.Texts.{Reads}
 use Rattle.dn_instance.specs.declared.companion.CompanionFault.{CompanionFault}
 use Rattle.dn_canon.specs.CanonTexts.{IsTooLarge}
-use Rattle.dn_run.specs.Runs.{Unfits}
+use Rattle.dn_run.specs.Findings.{Unfits}
 
 -- the command does not accept its text, or its two texts together, if the bytes behind all names are known: one reads
 -- as no instance, the canonical text that is asked for is too large, or the companion does not fit

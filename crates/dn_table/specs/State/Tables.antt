@@ -6,7 +6,7 @@ use Rattle.std.specs.List.{AllByRecursion}
 use Rattle.std.specs.List.Sorted.{IsStrictlySortedBy}
 use Rattle.std.specs.Map.{keys_of, lookup}
 use Rattle.dn_arc.specs.State.Bundles.{BundleFacts, meant, listed_of}
-use Rattle.dn_arc.specs.Entries.{ArcSizes}
+use Rattle.dn_arc.specs.State.Sizes.{ArcSizes}
 use Rattle.dn_arc.specs.Kinds.{ArcKind}
 use Rattle.dn_arc.specs.State.CanonArcs.{AreCanonArcsOf, NeedsMore}
 use Rattle.dn_table.specs.GraphEntries.{graph_entries}
@@ -59,7 +59,8 @@ AreArcs kind arcs = AllByRecursion (λ a. kind.IsArc a.1) arcs
 -- one more arc of a graph needs memory: the arcs make more entries with it, or it spreads the forced units of its pair
 abbrev pub GraphNeedsMore : {Arc : Type 0} → ArcSizes Arc → List ((ℤ × ℤ) × Arc) → (ℤ × ℤ) × Arc → Type 0
 GraphNeedsMore sizes arcs a =
-    (graph_entries sizes arcs < graph_entries sizes (arcs ++ a ∷ [])) ⊎ sizes.Spreads (bundle a.0 arcs) a.1
+    (graph_entries sizes.entries arcs < graph_entries sizes.entries (arcs ++ a ∷ []))
+    ⊎ sizes.Spreads (bundle a.0 arcs) a.1
 
 -- arcs that mean something also mean something with one more arc
 abbrev pub Stays : {Arc : Type 0} → ArcKind Arc → Type 0
@@ -91,4 +92,4 @@ module _ {B Arc : Type 0} (bundle : BundleFacts B Arc) where
   -- n is how many entries the arcs of the table make, if that is below 2^64
   abbrev pub CountsEntries : List ((ℤ × ℤ) × B) → ℕ → Type 0
   CountsEntries table n = (arcs : List ((ℤ × ℤ) × Arc)) → Lists table arcs → AreArcs bundle.kind arcs
-      → graph_entries bundle.sizes arcs < 2 ^ 64 → n ≡ graph_entries bundle.sizes arcs
+      → graph_entries bundle.sizes.entries arcs < 2 ^ 64 → n ≡ graph_entries bundle.sizes.entries arcs

@@ -10,11 +10,12 @@ import signal
 import subprocess
 import sys
 from collections.abc import Iterable, Iterator, Sequence
+from typing import BinaryIO
 
-from ..causes import REMEDIES, cause_of, quoted
-from ..console import for_terminal
-from ..errors import DnormError, NoProgram, Write
-from ..files import of_stream, reason_of
+from ..causes import Opener, cause_of, quoted
+from ..console import for_terminal, is_open
+from ..errors import DnormError, NoProgram, Refused, Write
+from ..files import Copied, of_stream, reason_of
 from ..program import find_program
 from ..refusals import REFUSALS
 
@@ -22,20 +23,21 @@ USAGE = """\
 Prints what dnorm has printed, and below each refusal of a file what shows its cause: the line that it names; what it
 depends on, such as NODES, how many lines are declared and found, or where a repeated node came first; whether the file
 is compressed, a pointer of Git LFS or in another encoding; and a command that mends the file. Below 31 it prints why
-the file cannot be read, and below a refusal of standard input nothing.
+the file cannot be read.
 
     dnorm check FILE 2>&1 | dnorm-explain
     dnorm-explain WORDS..
 
-The second form runs dnorm with these words, and also explains a command line that is refused. dnorm-explain reads the
-files that the refusals name, so it runs in the folder of dnorm.
+The second form runs dnorm with these words, keeps a copy of standard input if dnorm reads it, and also explains a
+command line that is refused; the number or the name of a refusal prints its sentence. dnorm-explain reads the files
+that the refusals name, so it runs in the folder of dnorm.
 
 The status is that of dnorm, as its lines tell it; of several runs, the greatest one; 3 if there are no words and
 standard input is a terminal.
 """
 # A name may have LF.
-REFUSED_LINE = re.compile(r"(.*):([0-9]+|end): ([12]?[0-9]) [A-Za-z]+", re.S)
-OTHER_LINE = re.compile(r"(.*): 3([0-6]) [A-Za-z]+(?: ([0-9]+))?", re.S)
+REFUSED_LINE = re.compile(r"(?P<name>.*):(?P<place>[0-9]+|end): (?P<number>[12]?[0-9]) (?P<word>[A-Za-z]+)", re.S)
+OTHER_LINE = re.compile(r"(?P<name>.*): (?P<number>3[0-6]) (?P<word>[A-Za-z]+)(?: (?P<node>[0-9]+))?", re.S)
 WRONG = ("dnorm: bad command line", "dnorm: standard input named twice")
 # The options of each command with the number of its files, and the values that options take.
 COMMANDS: dict[str, tuple[list[str], int]] = {
@@ -52,6 +54,9 @@ def explain(words: Sequence[str]) -> int:
     """Explains standard input, or a run of the program with these words. Returns the status."""
     if words and words[0] in ("-h", "--help"):
         sys.stdout.write(USAGE)
+        return 0
+    if len(words) == 1 and sentence_of(words[0]):
+        say(1, sentence_of(words[0]), ())
         return 0
     if words:
         return explain_run(words)
@@ -72,15 +77,25 @@ def say(fd: int, told: str, causes: Iterable[str]) -> None:
 
 
 def explain_run(words: Sequence[str]) -> int:
-    """Runs the program with these words, and explains on standard error what it prints there."""
-    program = find_program()
+    """Runs the program with these words, and explains on standard error what it prints there. A copy of standard input
+    is kept if the program reads it."""
+    program, copy = find_program(), Copied() if "-" in words and is_open(0) else None
     try:
-        ran = subprocess.run([program, *words], stderr=subprocess.PIPE, check=False)
+        process = subprocess.Popen([program, *words], stdin=subprocess.PIPE if copy else None, stderr=subprocess.PIPE)
     except OSError as error:
         raise NoProgram(program, reason_of(error)) from error
-    for told in lines_of(os.fsdecode(ran.stderr)):
-        say(2, told, wrong_words(words) if told == WRONG[0] else causes_of(told))
-    return ran.returncode if ran.returncode >= 0 else 128 - ran.returncode
+    if copy and process.stdin:
+        # The program reads no further once it has found a fault.
+        signal.signal(signal.SIGPIPE, signal.SIG_IGN)
+        with contextlib.suppress(BrokenPipeError):
+            for piece in of_stream(copy):
+                process.stdin.write(piece)
+                process.stdin.flush()
+    _, said = process.communicate()
+    signal.signal(signal.SIGPIPE, signal.SIG_DFL)
+    for told in lines_of(os.fsdecode(said)):
+        say(2, told, wrong_words(words) if told == WRONG[0] else causes_of(told, copy))
+    return process.returncode if process.returncode >= 0 else 128 - process.returncode
 
 
 def lines_of(said: str) -> list[str]:
@@ -99,45 +114,56 @@ def status_of(told: str) -> int:
         return 1
     if REFUSED_LINE.fullmatch(told):
         return 2
-    return (4 if int(other[2]) < 4 else 2) if other else 0
+    return (4 if int(other[2]) < 34 else 2) if other else 0
 
 
-def causes_of(told: str) -> Iterator[str]:
-    """Yields what shows the cause of what a line tells."""
+def causes_of(told: str, copy: Copied | None = None) -> Iterator[str]:
+    """Yields what shows the cause of what a line tells, of standard input by its copy."""
     refused, other = REFUSED_LINE.fullmatch(told), OTHER_LINE.fullmatch(told)
-    if other and other[2] == "1" and other[1] != "-":
-        try:
-            with open(other[1], "rb", buffering=0, opener=lambda it, flags: os.open(it, flags | os.O_NONBLOCK)) as file:
-                file.read(1)
-        except OSError as error:
-            yield reason_of(error)
-    if other and other[3]:
-        yield from causes_in(other[1], None, 35, int(other[3]))
-    if other and other[2] == "6":
-        yield REMEDIES[36]
-    if refused:
-        yield from causes_in(refused[1], None if refused[2] == "end" else int(refused[2]), int(refused[3]), None)
-
-
-def causes_in(name: str, line: int | None, number: int, node: int | None) -> Iterator[str]:
-    if name == "-" or not os.path.isfile(name):
+    found = refused or other
+    if not found or REFUSALS.get(int(found["number"]), ("",))[0] != found["word"]:
         return
-    with contextlib.suppress(OSError), open(name, "rb", buffering=0) as file:
+    name, number = found["name"], int(found["number"])
+    if other and 30 <= number < 34:
+        yield REFUSALS[number][1]
+        if number == 31 and name != "-":
+            try:
+                with open_file(name) as file:
+                    file.read(1)
+            except OSError as error:
+                yield reason_of(error)
+        return
+    line = int(found["place"]) if refused and found["place"] != "end" else None
+    node = int(found["node"]) if other and found["node"] else None
+    with contextlib.ExitStack() as stack:
+        text = copy.again if copy and name == "-" else opener_of(name, stack)
+        cause = cause_of(text, None if name == "-" else name, line, number, node)
+        yield from Refused(name, line, number, "", node, cause.text, "\n".join(cause.hints), cause.mark).causes
+
+
+def open_file(name: str) -> BinaryIO:
+    return open(name, "rb", buffering=0, opener=lambda it, flags: os.open(it, flags | os.O_NONBLOCK))
+
+
+def opener_of(name: str, stack: contextlib.ExitStack) -> Opener | None:
+    """Returns how a regular file is read from its beginning, or None for anything else."""
+    if name == "-" or not os.path.isfile(name):
+        return None
+    with contextlib.suppress(OSError):
+        file = stack.enter_context(open_file(name))
 
         def text() -> Iterator[bytes]:
             file.seek(0)
             return of_stream(file)
 
-        cause = cause_of(text, name, line, number, node)
-        if line is not None:
-            yield f"line {line}: {cause.text or ''}"
-        yield from cause.hints
+        return text
+    return None
 
 
 def wrong_words(words: Sequence[str]) -> Iterator[str]:
     command, *others = words
     if command not in COMMANDS:
-        yield unknown_command(command)
+        yield unknown_command(command, "dnorm", COMMANDS)
         return
     options, wanted = COMMANDS[command]
     files: list[str] = []
@@ -185,25 +211,25 @@ def sentence_of(word: str) -> str:
     return "".join(f"{number} {name}: {sentence}" for number, (name, sentence) in found)
 
 
-def unknown_command(word: str) -> str:
-    """Returns what is wrong with a word that is no command."""
+def unknown_command(word: str, program: str, commands: Iterable[str]) -> str:
+    """Returns what is wrong with a word that is no command of a program."""
     if word == "-" or os.path.exists(word):
-        return f"a command comes before the file: dnorm check {quoted(word)}"
+        return f"a command comes before the file: {program} check {quoted(word)}"
     if sentence_of(word):
         return sentence_of(word)
-    near = [OTHER_NAMES[word]] if word in OTHER_NAMES else difflib.get_close_matches(word, COMMANDS, 1)
+    near = [OTHER_NAMES[word]] if word in OTHER_NAMES else difflib.get_close_matches(word, commands, 1)
     if near:
-        return f"dnorm has no command {word}: the nearest is {near[0]}"
-    return f"dnorm has no command {word}; its commands are {', '.join(COMMANDS)}"
+        return f"{program} has no command {word}: the nearest is {near[0]}"
+    return f"{program} has no command {word}; its commands are {', '.join(commands)}"
 
 
-def main() -> int:
+def main(words: Sequence[str] | None = None) -> int:
     """Runs the command, and returns the status. A failure is a line on standard error; a signal ends this like other
     tools."""
     for it in (signal.SIGINT, signal.SIGPIPE):
         signal.signal(it, signal.SIG_DFL)
     try:
-        return explain(sys.argv[1:])
+        return explain(sys.argv[1:] if words is None else words)
     except (DnormError, OSError) as error:
         failure = error if isinstance(error, DnormError) else Write("out", reason_of(error))
         with contextlib.suppress(OSError):

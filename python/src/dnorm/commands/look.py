@@ -3,24 +3,32 @@ the pictures and the tables that need a script. The counts and the refusals are 
 
 from __future__ import annotations
 
+import base64
+import contextlib
+import hashlib
 import html
 import json
 import os
 import re
+import time
+from bisect import bisect_left
 from collections import Counter, defaultdict
 from collections.abc import Iterable, Sequence
 from typing import Optional
 
+from .. import __version__
 from ..answers import Difference
 from ..console import shown
-from ..errors import NoProgram, Refused
+from ..errors import DnormError, NoProgram, Refused
 from ..folders import Collection
 from ..instances import Graph, Min
+from ..library import GRAPHS
 from ..manifests import Changes
-from ..pairs import Arcs, Differences, PairDifference
+from ..pairs import Arcs, Curve, Differences, PairDifference
 from ..program import WEB, placed
 from ..records import SIZES, Record
 from .reports import counted
+from .staged import git
 
 # How many corners of a curve, arcs of a pair, and pairs around a pair a page has; how many causes, and files of one;
 # and how many names in another list.
@@ -42,20 +50,34 @@ SINCE = ("", "new", "changed", "renamed")
 
 
 def page(title: str, is_good: bool, sentence: str, parts: Iterable[str], data: object) -> str:
-    """Returns a page in characters of ASCII, which are the same in each locale."""
+    """Returns a page in characters of ASCII, which are the same in each locale. Its policy allows only its scripts."""
     made = {"TITLE": escaped(title), "DATA": json.dumps(data).replace("<", "\\u003c")}
     head = f'<h1>{escaped(title)}</h1><p class="{"good" if is_good else "bad"} verdict">{escaped(sentence)}</p>'
-    made |= {"BODY": head + "".join(parts), "LOOK": shared("look.js"), "REPORT": shared("report.js")}
-    text = re.sub("@(TITLE|BODY|LOOK|REPORT|DATA)@", lambda it: made[it[1]], shared("report.html"))
+    scripts = {"LOOK": shared("look.js"), "REPORT": shared("report.js")}
+    hashes = (base64.b64encode(hashlib.sha256(it.encode()).digest()).decode() for it in scripts.values())
+    made |= {"BODY": head + "".join(parts), **scripts, "HASHES": " ".join(f"'sha256-{it}'" for it in hashes)}
+    text = re.sub("@(TITLE|BODY|LOOK|REPORT|DATA|HASHES)@", lambda it: made[it[1]], shared("report.html"))
     return text.encode("ascii", "xmlcharrefreplace").decode()
 
 
 def shared(name: str) -> str:
     path = placed(name, WEB)
     if not path:
-        raise NoProgram(name, "this copy of the package lacks it: wheels, archives and ./install bring it")
+        raise NoProgram(name, "this copy of the package lacks it: wheels, archives and bin/install bring it")
     with open(path, encoding="utf-8") as file:
         return file.read()
+
+
+def made_of(folder: str) -> str:
+    """Returns when the page was made, by which version, and of which state of a folder."""
+    seconds = os.environ.get("SOURCE_DATE_EPOCH", "")
+    day = time.gmtime(int(seconds) if seconds.isdecimal() else None)
+    told = [time.strftime("%Y-%m-%d", day), f"dnorm {__version__}"]
+    # The folder may be gone, or in no repository, and there may be no git.
+    with contextlib.suppress(OSError, DnormError):
+        told.append(os.path.abspath(folder))
+        told.append(f"commit {git('-C', folder, 'rev-parse', '--short', 'HEAD').decode().strip()}")
+    return f"<p class=soft>{escaped(', '.join(told))}</p>"
 
 
 def escaped(text: object) -> str:
@@ -92,9 +114,11 @@ def page_of_pair(found: Differences, left: str, right: str) -> str:
     """Returns the page of where two files differ."""
     first = found.first
     names = f"<p><b class=left>Left</b> {escaped(left)}<br><b class=right>Right</b> {escaped(right)}"
+    sides = ["left", "right"] if left == right else [shown(left), shown(right)]
     if not isinstance(first, Difference):
         return page("Two files of one problem", True, "Both files pose the same problem.", [names], {})
-    title, sentence, data = "Where two files differ", SAID[first.what].format(**vars(first)), {}
+    title, sentence = "Where two files differ", SAID[first.what].format(**vars(first))
+    data: dict[str, object] = {"sides": sides}
     parts = [names, f"<p><code>{escaped(first)}</code></p>"]
     if found.kind:
         counts = [("only left", found.only_left, "left"), ("different", found.different, "bad")]
@@ -124,10 +148,18 @@ def arcs(found: Arcs, between: str) -> str:
 def costs_of(first: Difference, pair: PairDifference) -> dict[str, object]:
     """Returns the difference and the curves as web/look.js takes them, with numbers as texts."""
     numbers = {"at": pair.key[0], "to": pair.key[1], "amount": first.amount, "left": first.left, "right": first.right}
-    curves = pair.curves()
-    drawn = [[[str(n) for n in corner] for corner in curve[:CORNERS]] for curve in curves]
-    cut = CORNERS if any(len(it) > CORNERS for it in curves) else 0
-    return {**{it: None if n is None else str(n) for it, n in numbers.items()}, "curves": drawn, "cut": cut}
+    drawn = [near(curve, first.amount or 0) for curve in pair.curves()]
+    corners = [[[str(n) for n in corner] for corner in curve] for curve, _ in drawn]
+    cuts = [ends for _, ends in drawn]
+    told = {"curves": corners, "cuts": cuts, "cut": CORNERS if any(map(any, cuts)) else 0}
+    return {**{it: None if n is None else str(n) for it, n in numbers.items()}, **told}
+
+
+def near(curve: Curve, amount: int) -> tuple[Sequence[tuple[int, int]], tuple[bool, bool]]:
+    """Returns the corners of a curve around an amount, and at which ends there are more."""
+    middle = bisect_left([it for it, _ in curve], amount)
+    start = max(0, min(middle - CORNERS // 2, len(curve) - CORNERS))
+    return curve[start : start + CORNERS], (start > 0, start + CORNERS < len(curve))
 
 
 def remarks_of(found: Differences) -> list[str]:
@@ -158,10 +190,11 @@ def around(found: Differences, pair: PairDifference) -> dict[str, object]:
 def page_of_folder(it: Collection, folder: str, status: int, changes: Optional[Changes]) -> str:
     """Returns the page of what is in a folder, and what has changed there since a manifest."""
     kinds, groups = Counter(one.kind or one.status for one in it.records), groups_of(it.records)
-    parts = [section("Kinds", bar((name, kinds[name], colour) for name, colour in COLOURS.items()))]
+    parts = [made_of(folder), section("Kinds", bar((name, kinds[name], colour) for name, colour in COLOURS.items()))]
+    parts.append(section("Refused and failed files", *refusals(it.records)))
     if changes:
         parts.append(section("Since the manifest, of accepted files", *since(it, changes)))
-    parts += [section("Sizes", "<div id=sizes></div>"), section("Refused and failed files", *refusals(it.records))]
+    parts.append(section("Sizes", "<div id=sizes></div>"))
     told = (folded(one[0], one, FILES) for one in groups[:50])
     parts.append(section(f"Groups of files of one problem: {len(groups)}", *told))
     noted = defaultdict[str, list[str]](list)
@@ -214,11 +247,11 @@ def refusals(records: Sequence[Record]) -> list[str]:
 
 
 def groups_of(records: Sequence[Record]) -> list[list[str]]:
-    """Returns the names of files that pose the same problem, in groups, the largest first. Links to a file are left
+    """Returns the names of graphs that pose the same problem, in groups, the largest first. Links to a file are left
     out."""
     found = defaultdict[str, dict[tuple[int, int], str]](dict)
     for it in records:
-        if it.checksum and os.path.exists(it.name):
+        if it.checksum and it.kind in GRAPHS and os.path.exists(it.name):
             of = os.stat(it.name)
             found[it.checksum].setdefault((of.st_dev, of.st_ino), it.name)
     return sorted((list(it.values()) for it in found.values() if len(it) > 1), key=lambda it: -len(it))
@@ -237,6 +270,8 @@ def table_of(it: Collection, groups: Sequence[Sequence[str]], changes: Optional[
     columns: dict[str, Iterable[Optional[int]]] = {"kind": (kinds.index(one.kind or one.status) for one in it.records)}
     columns |= {"note": map(numbers.__getitem__, notes), "group": (places.get(one.name) for one in it.records)}
     columns |= {size: [getattr(one, size) for one in it.records] for size in SIZES}
+    lines = [one.error.line if isinstance(one.error, Refused) else None for one in it.records]
+    columns |= {"line": lines} if any(lines) else {}
     columns |= {"since": (changed_as.get(one.name) for one in it.records)} if changes else {}
     told: dict[str, object] = {
         name: " ".join("" if n is None else str(n) for n in cells) for name, cells in columns.items()

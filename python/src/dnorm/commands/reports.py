@@ -6,12 +6,19 @@ import csv
 import io
 import os
 import re
+from collections import Counter
 from collections.abc import Container, Iterator, Mapping, Sequence
 from xml.etree import ElementTree
 
+from ..console import shown
 from ..errors import Refused
+from ..folders import LINK_TO_FOLDER
+from ..instances import Graph, Max, Min
+from ..library import Held
 from ..manifests import line_with
-from ..pairs import VALUES, Differences
+from ..names import ending_of
+from ..pairs import VALUES, Differences, pairs_of, rows_of
+from ..reader import instance_by
 from ..records import SIZES, Contents, Range, Record
 
 # The sums that `list` tells.
@@ -45,6 +52,18 @@ def counted(counts: Mapping[str, int], always: Container[str]) -> str:
     return ", ".join(told).replace("_", " ")
 
 
+def told_others(others: Mapping[str, str], most: int = 6) -> str:
+    """Returns the endings of other files with their numbers, the most frequent ones first."""
+    ends = Counter("links to folders" if why == LINK_TO_FOLDER else kept_ending(name) for name, why in others.items())
+    told = sorted(ends.items(), key=lambda it: (-it[1], it[0]))
+    more = [f"more {sum(n for _, n in told[most:])}"] if len(told) > most else []
+    return ", ".join([*(f"{it} {n}" for it, n in told[:most]), *more])
+
+
+def kept_ending(name: str) -> str:
+    return shown(ending_of(name))[:16] or "no ending"
+
+
 def line_of(it: Record) -> str:
     if it.error:
         return line_with(it.name, after=it.what)
@@ -54,8 +73,12 @@ def line_of(it: Record) -> str:
 
 def cause_of(it: Record) -> list[str]:
     """Returns the lines that show the cause of a refusal, or of a compressed file that cannot be read."""
-    lines = [f"line {it.error.line}: {it.error.text}"] if isinstance(it.error, Refused) and it.error.text else []
-    return lines + (it.hint.splitlines() if it.hint else [])
+    return it.error.causes if isinstance(it.error, Refused) else it.hint.splitlines() if it.hint else []
+
+
+def causes_of(it: Record) -> str:
+    """Returns these lines as they stand below that of the error."""
+    return "".join(f"    {line}\n" for line in cause_of(it))
 
 
 def text_of(it: Record) -> str:
@@ -100,7 +123,6 @@ def annotation_of(it: Record) -> str:
         if it.error.line is not None:
             properties["line"] = str(it.error.line)
         properties["title"] = f"dnorm: {it.error.number} {it.error.word}"
-        parts.append(it.error.sentence)
     parts += cause_of(it)
     return annotation("error", properties, "\n".join(parts))
 
@@ -127,7 +149,7 @@ def junit(records: Sequence[Record]) -> bytes:
             what, kind = ("failure", refused.word) if refused else ("error", type(it.error).__name__)
             counts[f"{what}s"] += 1
             fault = ElementTree.SubElement(case, what, type=kind, message=for_xml(f"{it.name}{it.what}"))
-            fault.text = for_xml("\n".join([*([refused.sentence] if refused else []), *cause_of(it)])) or None
+            fault.text = for_xml("\n".join(cause_of(it))) or None
         elif it.remarks:
             ElementTree.SubElement(case, "system-out").text = for_xml(", ".join(it.remarks))
     suite.attrib.update((it, str(count)) for it, count in counts.items())
@@ -172,3 +194,22 @@ def lines_of_differences(it: Differences) -> Iterator[str]:
             for values in arcs:
                 place = f", item {pair.key[0]}" if letter in "sq" else ""
                 yield f"{mark} {' '.join(map(str, (letter, *key, *values)))}{place}"
+
+
+def lines_of_show(it: Held) -> Iterator[str]:
+    """Yields the lines that `dnorm show` prints of a text."""
+    found = instance_by(it, 2)
+    yield f"kind {it.kind}\n" + (f"nodes {it.nodes}\n" if isinstance(found, Graph) else "") + f"lines {it.lines}\n"
+    if isinstance(found, Min):
+        yield f"supplies {len(found.supplies)}\n"
+    if isinstance(found, Max):
+        yield f"source {found.source}\nsink {found.sink}\n"
+    if isinstance(found, Graph):
+        yield f"pairs {it.pairs}\n"
+        for (tail, head), arcs in pairs_of(rows_of(found)):
+            (value, *_), *_ = arcs
+            told = {"sp": f"length {value}", "max": f"total {value}"}.get(it.kind)
+            if told is None:
+                forced, cost = sum(low for low, _, _ in arcs), sum(low * each for low, _, each in arcs)
+                told = f"forced {forced} cost {cost} steps {len({each for low, cap, each in arcs if cap > low})}"
+            yield f"pair {tail} {head} {told}\n"

@@ -8,15 +8,17 @@ import tempfile
 from collections.abc import Iterable, Sequence
 from contextlib import ExitStack, suppress
 
+from ..causes import ANNEX
 from ..errors import DnormError, NoProgram, Read
-from ..files import failing, reason_of
-from ..folders import Found, error_of_name
-from ..names import COMPANIONS, ENDINGS, is_text, misnamed_text, parts_of
+from ..files import Bounds, failing, reason_of
+from ..folders import Found, error_of
+from ..names import COMPANIONS, ENDINGS, is_excluded, is_text, parts_of, stem_of, unread_text
 from ..program import on_path
 from ..records import WITH_COMPANIONS
 
 # What the modes of files and of links begin with. All others are submodules.
 FILE, LINK = "100", "120"
+LEADS_OUT = "it leads out of the repository"
 
 
 def git(*words: str, given: bytes = b"", top: str | None = None) -> bytes:
@@ -36,6 +38,17 @@ def named(listed: bytes) -> list[str]:
     return [os.fsdecode(it) for it in listed.split(b"\0")[:-1]]
 
 
+def settings(name: str) -> list[str]:
+    """Returns the values of a variable of the configuration of git."""
+    with suppress(Read):
+        return named(git("config", "--null", "--get-all", name))
+    return []
+
+
+def is_strict() -> bool:
+    return git("config", "--type=bool", "--default=false", "dnorm.strict") != b"false\n"
+
+
 class Index:
     """The index of a repository: `modes` has the mode of each file by its name from `top`, the top of the working tree.
     Files are written into `folder`, and `errors` has those that git cannot read."""
@@ -43,7 +56,9 @@ class Index:
     def __init__(self, folder: str) -> None:
         self.top, self.folder = os.path.realpath(os.fsdecode(git("rev-parse", "--show-toplevel"))[:-1]), folder
         rows = (it.split("\t", 1) for it in named(self.git("ls-files", "--stage", "-z")))
-        self.modes = {name: row[:3] for row, name in rows}
+        # A file that `git add -N` has announced is not committed.
+        later = {*named(self.git("diff-files", "--ita-invisible-in-index", "--diff-filter=A", "--name-only", "-z"))}
+        self.modes = {name: row[:3] for row, name in rows if name not in later}
         self.errors: dict[str, DnormError] = {}
 
     def git(self, *words: str, given: bytes = b"") -> bytes:
@@ -57,7 +72,11 @@ class Index:
                 commit = os.fsdecode(self.git("rev-parse", "--verify", "--quiet", "HEAD"))[:-1]
             except Read:
                 commit = os.fsdecode(self.git("hash-object", "-t", "tree", os.devnull))[:-1]
-        return named(self.git("diff-index", "--cached", "--name-only", "--no-renames", "-z", commit, "--"))
+        return named(
+            self.git(
+                "diff-index", "--cached", "--ita-invisible-in-index", "--name-only", "--no-renames", "-z", commit, "--"
+            )
+        )
 
     def place(self, name: str) -> str:
         return os.path.join(self.folder, name)
@@ -98,15 +117,17 @@ class Index:
 
     def turned(self, link: str) -> str | None:
         """Turns a link that was written to what it leads to from the working tree. Returns the name of that if it is a
-        file of the index."""
+        file of the index. One that leads out of the repository has an error."""
         to = os.readlink(self.place(link))
         path = os.path.realpath(os.path.join(self.top, os.path.dirname(link), to))
         name = os.path.relpath(path, self.top)
-        is_tracked = self.modes.get(name, "") in (FILE, LINK)
+        is_tracked, is_annexed = self.modes.get(name, "") in (FILE, LINK), name.startswith(f".git/{ANNEX}")
         # What is not tracked is not committed: the link leads nowhere then.
-        if is_tracked or name.split("/")[0] in ("..", ".git"):
+        if is_tracked or is_annexed:
             os.remove(self.place(link))
             os.symlink(self.place(name) if is_tracked else path, self.place(link))
+        elif name.split("/")[0] in ("..", ".git"):
+            self.errors[link] = Read(link, LEADS_OUT)
         return name if is_tracked else None
 
     def is_folder(self, link: str) -> bool:
@@ -115,24 +136,27 @@ class Index:
         return os.path.isdir(self.place(link)) or any(it.startswith(f"{to}/") for it in self.modes)
 
 
-def staged(commit: str | None, stack: ExitStack) -> Found:
-    """Returns the texts that are staged and that the commit has not so, and the companions of such graphs. Their names
-    are those in the repository, and they lead to files in a folder, which is the current one until the stack ends."""
+def staged(commit: str | None, excluded: Sequence[str], stack: ExitStack) -> Found:
+    """Returns the texts that are staged and that the commit has not so, and the companions of such graphs, without what
+    these patterns and the configuration of git exclude. Their names are those in the repository, and they lead to files
+    in a folder, which is the current one until the stack ends."""
     folder = stack.enter_context(tempfile.TemporaryDirectory(prefix="dnorm-staged-"))
     with failing(Read, "git"):
-        index = Index(os.path.realpath(folder))
-        changed = [it for it in index.changed_from(commit) if is_text(it) or misnamed_text(it)]
-        stems = {parts_of(it)[0] for it in changed}
-        near = [it for it in index.modes if parts_of(it)[0] in stems and (is_text(it) or misnamed_text(it))]
+        index, patterns = Index(os.path.realpath(folder)), [*excluded, *settings("dnorm.exclude")]
+        changed = [it for it in index.changed_from(commit) if is_text(it) or unread_text(it)]
+        stems = {stem_of(it) for it in changed}
+        near = [it for it in index.modes if stem_of(it) in stems and (is_text(it) or unread_text(it))]
         index.write(it for it in near if index.modes[it] in (FILE, LINK))
     stack.callback(os.chdir, os.getcwd())
     os.chdir(folder)
-    return Found({it: index.errors.get(it) or error_of_name(it, ENDINGS) for it in wanted(index, changed, near)}, {})
+    bounds = Bounds((index.folder, os.path.join(index.top, ".git", ANNEX)), out=LEADS_OUT)
+    files = [it for it in wanted(index, changed, near) if not is_excluded(it, patterns)]
+    return Found({it: index.errors.get(it) or error_of(it, ENDINGS) for it in files}, {}, bounds=bounds)
 
 
 def wanted(index: Index, changed: Sequence[str], near: Sequence[str]) -> list[str]:
     """Returns which of the names near those that have changed are checked."""
-    graphs = {stem for stem, ending in map(parts_of, changed) if ending in WITH_COMPANIONS}
-    names = {*changed} | {it for it in near if parts_of(it)[1] in COMPANIONS and parts_of(it)[0] in graphs}
+    graphs = {stem_of(it) for it in changed if parts_of(it)[1] in WITH_COMPANIONS}
+    names = {*changed} | {it for it in near if parts_of(it)[1] in COMPANIONS and stem_of(it) in graphs}
     links = {it for it in near if index.modes[it] == LINK and it not in index.errors and index.is_folder(it)}
     return [it for it in near if it in names - links and index.modes[it] in (FILE, LINK)]

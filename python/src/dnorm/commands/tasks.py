@@ -9,29 +9,36 @@ import os
 from argparse import Namespace
 from collections import Counter
 from collections.abc import Callable
+from itertools import islice
 from typing import Optional
 
 from ..console import Console
-from ..errors import Read
-from ..files import reason_of, sink_of
+from ..calls import canon_into
+from ..errors import DnormError, Read
+from ..files import Bounds, Copied, File, Sink, Text, enough_memory, reason_of, sink_of
 from ..folders import Collection, Files, Found, find, in_order_of_names
-from ..manifests import Entry, Mark, line_with, manifest_changes, manifest_in, mark_of, read_manifest
+from ..manifests import Entry, Manifest, Mark, line_with, manifest_changes, manifest_in, mark_of, read_manifest
+from ..library import held
+from ..limits import Limit
 from ..manifests import renewed
 from ..manifests import text_of as text_of_manifest
+from ..names import place_of, real
 from ..pairs import differences
 from ..records import Partners, Reading, Record, Tells, counts_of
 from .look import page_of_folder, page_of_pair
-from .reports import annotation_of, cause_of, counted, junit, line_of, lines_of_differences, record_of_differences
-from .reports import row_of, text_of
-from .staged import staged
+from .reports import annotation_of, causes_of, counted, junit, line_of, lines_of_differences, lines_of_show
+from .reports import record_of_differences, row_of, text_of, told_others
+from .staged import is_strict, staged
 from .workers import Workers
 
 # The exit statuses besides 0. The greatest one that applies counts.
 DIFFERS, REFUSED, USAGE, FAILED = 1, 2, 3, 4
 
+# How long the check of a staged file may take.
+MINUTE = 60
 # What the accepted files are called at the end, by the commands.
 DONE = {"check": "accepted", "manifest": "listed", "verify": "same", "same": "accepted", "list": "listed"}
-DONE["look"] = "accepted"
+DONE |= {"look": "accepted", "show": "shown"}
 # What is told also if there is none of it.
 ALWAYS = {*DONE.values(), "different", "refused", "failed"}
 
@@ -47,7 +54,8 @@ class Run:
     def __init__(self, words: Namespace, console: Console) -> None:
         self.words, self.console = words, console
         self.records: list[Record] = []
-        self.own = self.others = self.excluded = 0
+        self.own = self.excluded = 0
+        self.others: dict[str, str] = {}
         # How many files are done, if not all of them; what takes the results that a signal has left; and what prints
         # more about all results.
         self.unfinished = ""
@@ -63,10 +71,15 @@ class Run:
     def is_json(self) -> bool:
         return bool(getattr(self.words, "json", False)) or getattr(self.words, "format", "") == "json"
 
-    def reading(self, tells: Tells, partners: Optional[Partners] = None, is_strict: bool = False) -> Reading:
-        """Returns how files are read whose records tell so much, and more as JSON."""
-        tells = "whole" if self.is_json and tells != "contents" else tells
-        return Reading(self.words.form, partners, is_strict, tells, self.words.timeout)
+    def reading(self, found: Found, tells: Tells, partners: Optional[Partners] = None) -> Reading:
+        """Returns how these files are read whose records tell so much, and more as JSON."""
+        words, tells = self.words, "whole" if self.is_json and tells != "contents" else tells
+        is_strict = words.task == "check" and words.strict
+        return Reading(words.form, partners, is_strict, tells, words.timeout, found.bounds)
+
+    def sink(self, name: str) -> contextlib.AbstractContextManager[Sink]:
+        """Opens what an option names to be written: a file, or standard output."""
+        return contextlib.nullcontext(Sink(name, self.console.print)) if name == "-" else sink_of(name)
 
     def check(self) -> None:
         """Checks files, and prints a line for each, and at the end the refusals with their causes."""
@@ -74,10 +87,12 @@ class Run:
         with contextlib.ExitStack() as stack:
             if words.staged is not None:
                 # The texts are in another folder, which becomes the current one.
-                words.junit = words.junit and os.path.abspath(words.junit)
-            found = self.found() if words.staged is None else staged(words.staged or None, stack)
-            report = stack.enter_context(sink_of(words.junit)) if words.junit else None
-            reading = self.reading("kind", self.partners(found) if words.companions else None, words.strict)
+                words.junit = words.junit if words.junit in (None, "-") else os.path.abspath(words.junit)
+                words.strict = words.strict or is_strict()
+                words.timeout = words.timeout or MINUTE
+            found = self.found() if words.staged is None else staged(words.staged or None, words.exclude, stack)
+            report = stack.enter_context(self.sink(words.junit)) if words.junit else None
+            reading = self.reading(found, "kind", self.partners(found) if words.companions else None)
             self.print_rest = self.print_end
             self.read(in_order_of_names(found.files), reading.record, self.print_record)
             if report:
@@ -85,6 +100,8 @@ class Run:
         self.print_end()
         if words.staged is None or self.status or any(it.remarks for it in self.records):
             self.sum_up_checks()
+        if words.staged is not None and self.status:
+            self.console.complain("git config --add dnorm.exclude PATTERN leaves files out of this check\n")
 
     def partners(self, found: Found) -> Partners:
         """Returns the partners of files, and adds the companions of graphs that are named."""
@@ -99,19 +116,25 @@ class Run:
 
     def print_record(self, it: Record) -> None:
         """Prints what the check of a file leads to. Of what is staged, refused and failed files come at the end."""
-        if not it.error and not it.remarks and (self.words.quiet or self.words.staged is not None):
+        words = self.words
+        if words.junit == "-" or not it.error and not it.remarks and (words.quiet or words.staged is not None):
             return
-        if self.words.format != "text":
+        if words.format != "text":
             self.console.print(it.as_json() if self.is_json else annotation_of(it))
-        elif not it.error or self.words.staged is None:
-            self.console.print(line_of(it))
+        elif not it.error or words.staged is None:
+            self.console.print(line_of(it) + (causes_of(it) if self.is_once and not words.quiet else ""))
+
+    @property
+    def is_once(self) -> bool:
+        """Whether a terminal shows each error once, with its causes below its line."""
+        return self.console.is_shown and self.console.is_terminal and self.words.staged is None
 
     def print_end(self) -> None:
         """Prints the refused and failed files again, with the causes, on standard error."""
-        if self.words.format != "text" or self.words.quiet:
+        if self.words.format != "text" or self.words.quiet or self.is_once:
             return
         for it in self.records:
-            causes = "".join(f"    {line}\n" for line in cause_of(it))
+            causes = causes_of(it)
             # A line that is the only one and has no cause would say the same once more.
             if it.error and (causes or len(self.records) > 1 or self.words.staged is not None):
                 self.console.complain(line_of(it) + causes)
@@ -119,7 +142,8 @@ class Run:
     def manifest(self) -> None:
         """Prints the canonical checksum of each file, or writes them into a file. If that is one with the marks of
         files, those that have not changed are not read."""
-        words, reading, target = self.words, self.reading("checksum"), None
+        words, found = self.words, self.found()
+        reading = self.reading(found, "checksum")
         output = words.output if words.incremental is None else words.incremental
         # There may be no such file yet.
         is_renewed = words.incremental is not None and os.path.lexists(words.incremental)
@@ -128,8 +152,8 @@ class Run:
         marks: dict[str, Optional[Mark]] = {}
 
         def record(name: str) -> Record:
-            found, marks[name] = renewed(name, words.form, reading.record, known.get(name))
-            return found
+            one, marks[name] = renewed(name, words.form, reading.record, known.get(name))
+            return one
 
         def take(it: Record) -> None:
             if it.checksum:
@@ -138,8 +162,8 @@ class Run:
                 self.tell(it)
 
         with contextlib.suppress(Incomplete), contextlib.ExitStack() as stack:
-            target = stack.enter_context(sink_of(output)) if output else None
-            self.read(self.found().files, record, take)
+            target = stack.enter_context(self.sink(output)) if output else None
+            self.read(found.files, record, take)
             if target and any(it.status == "failed" for it in self.records):
                 self.console.complain(line_with(output, after=": not written, since it would lack what failed"))
                 raise Incomplete
@@ -156,7 +180,9 @@ class Run:
         files that the paths name and the manifest does not."""
         entries = self.listed(self.words.verify)
         form = next(it.form for it in entries.values())
-        reading = Reading(form, tells="checksum", timeout=self.words.timeout)
+        # Others may have written the manifest.
+        bounds = Bounds((real(self.words.within or "/"),))
+        reading = Reading(form, tells="checksum", timeout=self.words.timeout, bounds=bounds)
         counts: Counter[str] = Counter()
 
         def take(it: Record) -> None:
@@ -169,14 +195,14 @@ class Run:
             self.say(it, status, {"checksum": entries[it.name].checksum, "form": form})
 
         self.read(dict.fromkeys(entries), reading.record, take)
-        known = {os.path.abspath(it) for it in entries}
+        known = set(map(place_of, entries))
         for name, error in self.found().files.items():
             if not error and not os.path.lexists(name):
                 error = Read(name, os.strerror(errno.ENOENT))
             if error:
                 self.records.append(Record(name, error=error))
                 self.say(self.records[-1], "", {})
-            elif os.path.abspath(name) not in known:
+            elif place_of(name) not in known:
                 counts["not_listed"] += 1
                 self.say(Record(name), "not listed", {})
         first, more = ({it: counts[it] for it in names} for names in (("same", "different"), ("gone", "not_listed")))
@@ -197,7 +223,7 @@ class Run:
     def listed(self, name: str, is_empty: bool = False) -> dict[str, Entry]:
         """Returns the entries of a manifest by their names, and tells what is odd about it. It may be empty or not, and
         like a text, it may be compressed."""
-        found, has_form = manifest_in(name)
+        found, has_form = manifest_in(self.given(name))
         if not found and not is_empty:
             raise Read(name, "it lists no file")
         if found and not has_form:
@@ -208,16 +234,17 @@ class Run:
         """Prints groups of files that pose the same problem. A link to a file of a group is none of them."""
         groups: dict[str, dict[tuple[int, int], str]] = {}
         marks: dict[str, Mark] = {}
-        links, reading = 0, self.reading("checksum")
+        found = self.found()
+        links, reading = 0, self.reading(found, "checksum")
 
         def record(name: str) -> Record:
-            found = reading.record(name)
+            one = reading.record(name)
             try:
                 marks[name] = mark_of(name)
             except OSError as error:
                 # It has gone meanwhile.
-                return found if found.error else Record(name, error=Read(name, reason_of(error)))
-            return found
+                return one if one.error else Record(name, error=Read(name, reason_of(error)))
+            return one
 
         def take(it: Record) -> None:
             nonlocal links
@@ -230,7 +257,7 @@ class Run:
             if file not in group or os.path.islink(group[file]) and not os.path.islink(it.name):
                 group[file] = it.name
 
-        self.read(self.found().files, record, take)
+        self.read(found.files, record, take)
         same = [(sum_, sorted(it.values(), key=os.fsencode)) for sum_, it in groups.items() if len(it) > 1]
         if self.is_json:
             lines = (json.dumps({"checksum": sum_, "names": names}) + "\n" for sum_, names in same)
@@ -252,39 +279,75 @@ class Run:
             else:
                 self.console.print(line_with(it.name, after=f": {it.kind}") + text_of(it))
 
-        self.read(self.found().files, self.reading("contents").record, take)
+        found = self.found()
+        self.read(found.files, self.reading(found, "contents").record, take)
         self.sum_up({})
 
     def compare(self) -> None:
         """Prints the first difference between two files, how many pairs differ, and the arcs of the first ones. A file
         - is standard input."""
         words = self.words
-        with open(0, "rb", buffering=0, closefd=False) as stream:
-            left, right = (stream if it == "-" else it for it in (words.left, words.right))
-            found = differences(left, right, words.limit, timeout=words.timeout)
+        left, right = map(self.given, (words.left, words.right))
+        found = differences(left, right, words.limit, timeout=words.timeout)
         if words.json:
             self.console.print(json.dumps(record_of_differences(found)) + "\n")
         elif not words.quiet:
             self.console.print("".join(f"{it}\n" for it in lines_of_differences(found)))
         self.own = 0 if found.first else DIFFERS
 
+    def canon(self) -> None:
+        words = self.words
+        file, limit = self.given(words.file), Limit(words.timeout, words.file)
+        with self.sink(words.output or "-") as sink:
+            canon_into(sink.take, file, words.form, limit)
+
+    def show(self) -> None:
+        """Prints what `dnorm show` prints of each file, below its name if there are several."""
+        found = self.found()
+        for name, error in found.files.items():
+            with enough_memory(name), contextlib.ExitStack() as stack:
+                try:
+                    if error:
+                        raise error
+                    text = Text(self.given(name), stack, Limit(self.words.timeout, name), found.bounds)
+                    it = stack.enter_context(held(text))
+                except DnormError as failed:
+                    self.records.append(Record(name, error=failed))
+                    self.console.complain(line_of(self.records[-1]) + causes_of(self.records[-1]))
+                    continue
+                self.records.append(Record(name, it.kind))
+                self.console.print(line_with(name, after=":") if len(found.files) > 1 else "")
+                lines = lines_of_show(it)
+                while piece := "".join(islice(lines, 1000)):
+                    self.console.print(piece)
+        if len(found.files) > 1 or self.others:
+            self.sum_up({})
+
+    def given(self, name: str) -> File:
+        """Returns the file that a word names: - is standard input, which can be read again."""
+        return Copied() if name == "-" else name
+
     def look(self) -> None:
         """Prints a page of HTML: of where two files differ, or of what is in folders."""
         words = self.words
         if len(words.path) == 2:
             left, right = words.path
-            compared = differences(left, right, 50, timeout=words.timeout)
+            compared = differences(self.given(left), self.given(right), 50, timeout=words.timeout)
             self.console.print(page_of_pair(compared, left, right))
             self.own = 0 if compared.first else DIFFERS
             return
-        older = None if words.since is None else read_manifest(words.since)
+        older = None if words.since is None else read_manifest(self.given(words.since))
         words.form = older.form if older else words.form
-        found = find(words.path, words.ending, words.exclude)
-        self.others, self.excluded = len(found.others), found.excluded
+        found = find(words.path, words.ending, words.exclude, follow=words.follow)
+        self.others, self.excluded = found.others, found.excluded
         partners = self.partners(found)
-        self.read(in_order_of_names(found.files), self.reading("whole", partners).record, lambda _: None)
+        self.read(in_order_of_names(found.files), self.reading(found, "whole", partners).record, lambda _: None)
         collection = Collection(tuple(self.records), found.others, found.excluded, words.form)
-        changes = manifest_changes(older, collection.manifest) if older else None
+        changes = None
+        if older:
+            places = {place_of(it): it for it in collection.manifest.checksums}
+            sums = {places.get(place_of(it), it): checksum for it, checksum in older.checksums.items()}
+            changes = manifest_changes(Manifest(older.form, sums), collection.manifest)
         self.console.print(page_of_folder(collection, words.path[0], self.status, changes))
         self.sum_up_checks()
 
@@ -292,12 +355,14 @@ class Run:
         """Returns the files that the paths of the command line name. If it is strict, the other files below them have
         errors; otherwise they are counted."""
         words = self.words
-        found = find(words.path, words.ending, words.exclude)
+        found = find(words.path, words.ending, words.exclude, follow=words.follow, within=words.within)
         self.excluded += found.excluded
+        for it in found.unused:
+            self.console.complain(line_with(it, before="--exclude ", after=": nothing matches it"))
         if words.strict:
             errors = {name: Read(name, reason) for name, reason in found.others.items()}
-            return Found(in_order_of_names({**found.files, **errors}), {})
-        self.others += len(found.others)
+            return Found(in_order_of_names({**found.files, **errors}), {}, bounds=found.bounds)
+        self.others = found.others
         return found
 
     def read(self, files: Files, record: Callable[[str], Record], take: Callable[[Record], None]) -> None:
@@ -356,9 +421,14 @@ class Run:
         found, done = counts_of(self.records), DONE[self.words.task]
         counts = first or {done: found["accepted"]}
         counts |= {it: found[it] for it in ("refused", "failed")}
-        counts |= {**(more or {}), "other_files": self.others, "excluded": self.excluded}
+        counts |= {**(more or {}), "other_files": len(self.others), "excluded": self.excluded}
         if self.is_json:
             ended = {"status": self.status, "form": self.words.form, "unfinished": self.unfinished or None}
             self.console.print(json.dumps({"summary": {**counts, **ended}}) + "\n")
+        del counts["other_files"]
         told = [counted(counts, ALWAYS), *([self.unfinished] if self.unfinished else [])]
         self.console.complain(", ".join(told) + "\n")
+        if self.others:
+            end = "; --strict refuses them" if self.words.task != "look" else ""
+            count = counted({"other_files": len(self.others)}, ())
+            self.console.complain(f"{count}: {told_others(self.others)}{end}\n")

@@ -11,20 +11,22 @@ texts)."""
 from __future__ import annotations
 
 import contextlib
+import mmap
 import os
 import re
 import subprocess
 from argparse import Namespace
-from collections.abc import Iterator, Sequence
+from array import array
+from collections.abc import Iterable, Iterator, Sequence
 from concurrent.futures import FIRST_EXCEPTION, ThreadPoolExecutor, wait
 from dataclasses import dataclass
 from io import BytesIO
-from itertools import chain, islice
+from itertools import accumulate, chain, islice
 from typing import BinaryIO, NamedTuple
 
 from ..console import Console
 from ..errors import DnormError, Memory, Refused, Write
-from ..files import write_all
+from ..files import reason_of, write_all
 from ..limits import heeding_signals
 from .runs import ARC, BLOCK, Piece, Result, blocks, canon, canon_part, children, lines, whole
 
@@ -33,9 +35,9 @@ PROBLEM = re.compile(rb"^[ \t\r]*p[ \t\r].*", re.M)
 # The longest wait for a job, in seconds. A signal that comes just before a wait does not end it.
 PAUSE = 0.1
 # A part is given by its pieces, and by the name of its files.
-Part = tuple[Sequence[Piece], str]
-# About how many tails of a chunk are looked at, to choose the ranges.
-TAILS = 100
+Part = tuple[Iterable[Piece], str]
+# About how many tails of a chunk are looked at, to choose the ranges; and how many lines a chunk has at least.
+TAILS, LINES = 100, 1_000_000
 
 
 class Ended(Exception):
@@ -68,11 +70,11 @@ class Fault(NamedTuple):
 
 
 class Parts:
-    """A run of this program, in a folder of its own, with the parsed `options`. `has_output` says whether standard
-    output is open."""
+    """A run of this program, in a folder of its own, with the parsed `options`, that writes to `out`. `has_output` says
+    whether that is open."""
 
-    def __init__(self, options: Namespace, folder: str, program: str, has_output: bool) -> None:
-        self.options, self.folder, self.program, self.has_output = options, folder, program, has_output
+    def __init__(self, options: Namespace, folder: str, program: str, out: BinaryIO, has_output: bool) -> None:
+        self.options, self.folder, self.program, self.out, self.has_output = options, folder, program, out, has_output
         self.console = Console()
         self.head = f"{folder}/head.raw"
         self.kind, self.nodes, self.declared = "", 0, 0
@@ -84,16 +86,16 @@ class Parts:
         paths = self.cut_text()
         found = first_arc(paths)
         if not found:
-            raise self.in_one_run(paths)
+            return self.in_one_run(paths)
         chunks = self.without_head(paths, *found)
         self.read_head(chunks[0])
         if self.kind == "max" and self.nodes <= 1:
             # A part needs a source and a sink. A graph of one node has at most one pair.
-            raise self.in_one_run([self.head, *(it.path for it in chunks)])
+            return self.in_one_run([self.head, *(it.path for it in chunks)])
         results = self.canon("canonicalising chunks", [([whole(it.path)], it.path) for it in chunks], 1)
         chunks, seen, made, fault = self.judged(chunks, results)
         ranges = ranges_of(chunks, self.options.parts or len(chunks))
-        parts = [(pieces, f"{self.folder}/range.{at:07}") for at, pieces in enumerate(ranges)]
+        parts: list[Part] = [(it, f"{self.folder}/range.{at:07}") for at, it in enumerate(ranges)]
         results = self.canon("canonicalising ranges", parts, self.options.form)
         earliest = self.too_large(chunks, ranges, results)
         for it in [earliest, fault]:
@@ -124,26 +126,29 @@ class Parts:
             while block := block or text.read(BLOCK):
                 if not left:
                     stack.close()
+                    left = self.lines_of(len(paths))
                     paths.append(f"{self.folder}/chunk.{len(paths):07}")
                     chunk = stack.enter_context(open(paths[-1], "wb", buffering=0))
-                    left = self.options.lines
                 end = end_of_line(block, left)
                 write_all(chunk, block[:end])
                 left -= block.count(b"\n", 0, end)
                 block = block[end:]
         return paths
 
-    def in_one_run(self, paths: Sequence[str]) -> Ended:
-        """Writes the canonical text of files in one run of the program, and returns the end with its status."""
+    def lines_of(self, number: int) -> int:
+        """Returns how many lines the chunk of this number has. Each chunk is cut at the bounds of all ranges, so the
+        number of chunks grows slower than the text."""
+        return self.options.lines or max(LINES, LINES * number // 100)
+
+    def in_one_run(self, paths: Sequence[str]) -> None:
+        """Writes the canonical text of files in one run of the program."""
         text = (block for path in paths for block in blocks(whole(path)))
         try:
-            with open(1, "wb", buffering=0, closefd=False) as out:
-                canon(self.program, text, self.options.form, out)
+            canon(self.program, text, self.options.form, self.out)
         except Refused as error:
-            return self.stop(error.rest)
+            raise self.stop(error.rest) from error
         if not self.has_output:
             raise Write("out")
-        return Ended(0, "")
 
     def without_head(self, paths: Sequence[str], first: int, at: int) -> list[Chunk]:
         """Moves all lines before the first arc line, at byte `at` of this chunk, from the chunks into the head."""
@@ -157,7 +162,8 @@ class Parts:
         for path in paths[:first]:
             os.remove(path)
         os.replace(rest, paths[first])
-        chunks = [Chunk(path, number * self.options.lines) for number, path in enumerate(paths)][first:]
+        places = accumulate(map(self.lines_of, range(len(paths))), initial=0)
+        chunks = [*map(Chunk, paths, places)][first:]
         chunks[0].before += before
         return chunks
 
@@ -180,7 +186,7 @@ class Parts:
     def canon(self, what: str, parts: Sequence[Part], form: int) -> list[Result]:
         """Canonicalises parts, as many at once as there are jobs, and returns their results."""
 
-        def one(pieces: Sequence[Piece], path: str) -> Result:
+        def one(pieces: Iterable[Piece], path: str) -> Result:
             found = canon_part(self.program, self.kind, self.nodes, form, pieces, f"{path}.arcs")
             self.console.step()
             return found
@@ -240,13 +246,12 @@ class Parts:
                 os.remove(chunk.path)
         return kept, seen, made, None
 
-    def too_large(
-        self, chunks: Sequence[Chunk], ranges: Sequence[Sequence[Piece]], results: Sequence[Result]
-    ) -> Fault | None:
+    def too_large(self, chunks: Sequence[Chunk], ranges: Sequence[Slices], results: Sequence[Result]) -> Fault | None:
         """Returns the earliest line of the text at which the sum of a pair is too large across chunks."""
         found = []
-        for pieces, result in zip(ranges, results):
+        for slices, result in zip(ranges, results):
             if result.line:
+                pieces = [*slices]
                 # The line belongs to the chunk of the slice that contains it. The slices before it, followed by the
                 # lines of the chunk, show which line it is.
                 at, before = 0, 0
@@ -266,17 +271,16 @@ class Parts:
         with open(at, "rb") as head:
             end = len(head.readline())
         count = sum(it.made for it in results)
-        out = open(1, "wb", buffering=0, closefd=False)
         try:
             if not self.has_output:
                 raise OSError
-            write_all(out, f"p {self.kind} {self.nodes} {count}\n".encode())
-            pour(out, Piece(at, end, os.path.getsize(at)))
+            write_all(self.out, f"p {self.kind} {self.nodes} {count}\n".encode())
+            pour(self.out, Piece(at, end, os.path.getsize(at)))
             for (_, path), result in zip(parts, results):
-                pour(out, Piece(f"{path}.arcs", result.start, result.size))
+                pour(self.out, Piece(f"{path}.arcs", result.start, result.size))
                 os.remove(f"{path}.arcs")
         except OSError as error:
-            raise Write("out") from error
+            raise Write(self.options.output or "out", reason_of(error) if self.options.output else "") from error
 
 
 def pour(to: BinaryIO, *pieces: Piece) -> None:
@@ -335,35 +339,50 @@ def tails_of(arcs: Piece) -> Iterator[int]:
                 yield tail_on(line)
 
 
-def ranges_of(chunks: Sequence[Chunk], count: int) -> list[list[Piece]]:
+class Slices:
+    """The slices of all chunks, in their order, that are one range: those that are not empty. `cuts` has the places at
+    which each chunk is cut."""
+
+    def __init__(self, chunks: Sequence[Chunk], cuts: Sequence[Sequence[int]], number: int) -> None:
+        self._chunks, self._cuts, self._number = chunks, cuts, number
+
+    def __iter__(self) -> Iterator[Piece]:
+        for chunk, places in zip(self._chunks, self._cuts):
+            start, end = places[self._number : self._number + 2]
+            if start < end:
+                yield Piece(chunk.arcs.path, start, end)
+
+
+def ranges_of(chunks: Sequence[Chunk], count: int) -> list[Slices]:
     """Cuts the canonical arcs of the chunks into ranges of tails, so that ranges have about the same number of arcs.
-    Returns for each range its slices of all chunks, in their order."""
+    Returns for each range its slices of all chunks."""
     tails = sorted(it for chunk in chunks for it in tails_of(chunk.arcs))
     count = min(count, len(tails))
     bounds = sorted({tails[at * len(tails) // count] for at in range(1, count)})
-    ranges: list[list[Piece]] = [[] for _ in range(len(bounds) + 1)]
-    for chunk in chunks:
-        with open(chunk.arcs.path, "rb") as file:
-            cuts = [place_of(file, chunk.arcs.start, chunk.arcs.end, it) for it in bounds]
-        for pieces, start, end in zip(ranges, [chunk.arcs.start, *cuts], [*cuts, chunk.arcs.end]):
-            if start < end:
-                pieces.append(Piece(chunk.arcs.path, start, end))
-    return ranges
+    cuts = [cuts_of(it.arcs, bounds) for it in chunks]
+    return [Slices(chunks, cuts, it) for it in range(len(bounds) + 1)]
 
 
-def place_of(file: BinaryIO, low: int, high: int, bound: int) -> int:
-    """Returns where the first arc begins whose tail is not below a bound, in a file of arcs that rise. The arcs between
-    are from `low`, where a line begins, to `high`, where one ends."""
+def cuts_of(arcs: Piece, bounds: Iterable[int]) -> array[int]:
+    """Returns where canonical arcs begin, where the first one begins whose tail is not below each of the bounds, which
+    rise, and where they end."""
+    cuts = array("q", [arcs.start])
+    with open(arcs.path, "rb") as file, mmap.mmap(file.fileno(), 0, access=mmap.ACCESS_READ) as data:
+        for it in bounds:
+            cuts.append(place_of(data, cuts[-1], arcs.end, it))
+    cuts.append(arcs.end)
+    return cuts
+
+
+def place_of(data: mmap.mmap, low: int, high: int, bound: int) -> int:
+    """Returns where the first arc begins whose tail is not below a bound, in arcs that rise from `low`, where a line
+    begins, to `high`, where one ends. It is often near `low`, so steps grow from there."""
+    step = 64
     while low < high:
-        middle = (low + high) // 2
-        file.seek(max(middle - 1, low))
-        if middle > low:
-            # The line that contains the byte before, so that a line that begins at this byte is the next one.
-            file.readline()
-        begin = file.tell()
-        line = file.readline() if begin < high else b""
-        if line and tail_on(line) < bound:
-            low = begin + len(line)
+        middle = min(low + step, high - 1)
+        begin, end = data.rfind(b"\n", low, middle) + 1 or low, data.find(b"\n", middle) + 1
+        if tail_on(data[begin:end]) < bound:
+            low, step = end, 2 * step
         else:
-            high = middle
+            high, step = begin, (begin - low) // 2
     return low

@@ -11,11 +11,12 @@ import subprocess
 import sys
 import tempfile
 from collections.abc import Iterator, Sequence
-from typing import Any, NoReturn
+from typing import Any, BinaryIO, ContextManager, NoReturn
 
 from ..console import SIGNALS, Console, Stopped, has_output, heed, is_open, number
 from ..errors import DnormError, Memory, Write
-from ..files import reason_of
+from ..files import file_at, reason_of
+from ..names import packed_of
 from ..program import find_program, processors
 from .chunks import Ended, Parts, fail
 from .runs import children
@@ -56,8 +57,9 @@ def parser() -> Parser:
     add("file", nargs="?", metavar="FILE", help="the text; - is standard input")
     add("-V", "--version", action="store_true", help="print the version")
     add("--form", type=int, choices=(1, 2), default=1, help="the canonical form, 1 by default")
-    about = "lines of a chunk, by default 1000000; the memory of a job grows with it"
-    add("--lines", type=number(1), default=1_000_000, metavar="N", help=about)
+    add("-o", "--output", metavar="FILE", help="write into FILE, once all of it is known, in place of standard output")
+    about = "lines of a chunk, by default 1000000, or more if the text is large; a job takes some 40 bytes for each"
+    add("--lines", type=number(1), metavar="N", help=about)
     about = "ranges of tails, by default as many as chunks; the memory of a job falls with it"
     add("--parts", type=number(1), metavar="N", help=about)
     about = "jobs at once, by default one for each processor"
@@ -93,10 +95,15 @@ def run(words: Sequence[str], has_input: bool, is_written: bool) -> None:
         return
     if found.file is None:
         raise fail(3, "one FILE is wanted, or - (--help tells more)")
+    found.output = None if found.output == "-" else found.output
+    if found.output and packed_of(found.output)[1]:
+        raise fail(3, f"-o {found.output}: the text is not compressed")
     open_input(found.file, has_input)
     with folder_in(found.tmpdir) as at:
         try:
-            Parts(found, at, program, is_written).run()
+            own: ContextManager[BinaryIO] = open(1, "wb", buffering=0, closefd=False)
+            with file_at(found.output) if found.output else own as out:
+                Parts(found, at, program, out, is_written or bool(found.output)).run()
         except Memory as error:
             raise Ended(4, f"{found.file}{error.rest}") from error
         except Write as error:

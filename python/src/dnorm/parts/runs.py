@@ -193,7 +193,7 @@ def front(kind: str, nodes: int, arcs: int) -> bytes:
     return b"p min %d %d\na 1 1 0 0 0\n" % (nodes, arcs + 1)
 
 
-def canon_part(program: str, kind: str, nodes: int, form: int, pieces: Sequence[Piece], to: str) -> Result:
+def canon_part(program: str, kind: str, nodes: int, form: int, pieces: Iterable[Piece], to: str) -> Result:
     """Writes the canonical text of a part into a file, and returns the result."""
     arcs = sum(arcs_in(block) for piece in pieces for block in lines(piece))
     head = front(kind, nodes, arcs)

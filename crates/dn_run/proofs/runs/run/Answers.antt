@@ -1,6 +1,7 @@
 use Rattle.std.proofs.Common.{Ok, Err, refl, sym, ◌∙◌}
 use Rattle.dn_command.specs.declared.request.Request.TheVariants.{Memory}
 use Rattle.dn_run.proofs.BriefLaws.{ran_brief}
+use Rattle.dn_run.proofs.StatusLaws.{ran_plain}
 use Rattle.dn_run.proofs.RunLaws.{ran, refused_twice, run_once}
 use Rattle.dn_run.proofs.OutcomeLaws.{line_taken}
 use Rattle.dn_run.proofs.runs.run.Goals as goal
@@ -17,7 +18,7 @@ returns-in-Command-clause-also g c =
     }))
 
 pub returns-in-Command-clause-ran : goal.returns-in-Command-clause-ran
-returns-in-Command-clause-ran g c = ran_brief _ _ _ _ _ (returns-in-Command-clause-also g c)
+returns-in-Command-clause-ran g c = ran_plain _ _ _ _ _ (ran_brief _ _ _ _ _ (returns-in-Command-clause-also g c))
 
 pub returns-in-Ok-clause-also : goal.returns-in-Ok-clause-also
 returns-in-Ok-clause-also g c =
@@ -26,7 +27,7 @@ returns-in-Ok-clause-also g c =
     (sym c.names_standard_input_twice.ensures ∙ c.if-names_standard_input_twice.false) c.in-Ok.ensures refl refl)
 
 pub returns-in-Ok-clause-ran : goal.returns-in-Ok-clause-ran
-returns-in-Ok-clause-ran g c = ran_brief _ _ _ _ _ (returns-in-Ok-clause-also g c)
+returns-in-Ok-clause-ran g c = ran_plain _ _ _ _ _ (ran_brief _ _ _ _ _ (returns-in-Ok-clause-also g c))
 
 pub returns-in-Err-clause-also : goal.returns-in-Err-clause-also
 returns-in-Err-clause-also g c =
@@ -36,7 +37,7 @@ returns-in-Err-clause-also g c =
     c.tell.ensures)
 
 pub returns-in-Err-clause-ran : goal.returns-in-Err-clause-ran
-returns-in-Err-clause-ran g c = ran_brief _ _ _ _ _ (returns-in-Err-clause-also g c)
+returns-in-Err-clause-ran g c = ran_plain _ _ _ _ _ (ran_brief _ _ _ _ _ (returns-in-Err-clause-also g c))
 
 pub returns-in-Memory-clause-also : goal.returns-in-Memory-clause-also
 returns-in-Memory-clause-also g c = record {
@@ -54,4 +55,4 @@ returns-in-Memory-clause-also g c = record {
 }
 
 pub returns-in-Memory-clause-ran : goal.returns-in-Memory-clause-ran
-returns-in-Memory-clause-ran g c = ran_brief _ _ _ _ _ (returns-in-Memory-clause-also g c)
+returns-in-Memory-clause-ran g c = ran_plain _ _ _ _ _ (ran_brief _ _ _ _ _ (returns-in-Memory-clause-also g c))

@@ -16,5 +16,5 @@ returns-in-None g c apart arcs lists are few =
     let all =
     table_entries g.B.Bundle.bundle.kind g.B.Bundle.bundle.sizes g.met.B.Bundle.laws g.met.B.Bundle.sized
     (g.B.Bundle.bundle.listed One) c.args.entries.now arcs (once_apart (keys_of c.args.entries.now) apart) lists are in
-    let over : 2 ^ 64 ≤ graph_entries g.B.Bundle.bundle.sizes arcs = rw all at c.in-None.ensures in
+    let over : 2 ^ 64 ≤ graph_entries g.B.Bundle.bundle.sizes.entries arcs = rw all at c.in-None.ensures in
     absurd (omega arith)

@@ -1,5 +1,5 @@
 use Rattle.std.proofs.Common.{◌≡◌, ◌+◌, Some, Ok, Err, refl, sym, ◌∙◌, append-nil, arith}
-use Rattle.std.proofs.lemmas.List.{take_more_set}
+use Rattle.std.proofs.lemmas.List.{drop-set-lt, take_more_set}
 use Rattle.dn_line.specs.declared.code.Code.TheVariants.{TooLong}
 use Rattle.dn_arc_lines.specs.State.ArcLines.{arc_line_in}
 use Rattle.dn_arc_lines.proofs.LinesLaws.{grows}
@@ -41,3 +41,6 @@ returns-in-Err-clause-taken c ls l h at =
     grows old (record old { fault = Some c.in-Err.code }) ls l.bytes (Err c.in-Err.code) _ _ h c.requires.fine
     (rw (in_time (old.number + 1) (omega (arith, c.if-self-ge-LAST.false))) (sym (c.fields.ensures l at) ∙ c.in-Err.is))
     refl refl refl h.few (sym (append-nil _))
+
+pub returns-in-Some-clause-rest : goal.returns-in-Some-clause-rest
+returns-in-Some-clause-rest c = drop-set-lt (c.args.at + 1) c.args.out.now c.args.at c.in-Some.arc (omega arith)

@@ -1,4 +1,4 @@
-use Rattle.std.proofs.Common.{◌≡◌, ◌≤◌, ◌-◌, ℕ, List, [], ◌++◌, length, take, Some}
+use Rattle.std.proofs.Common.{◌≡◌, ◌≤◌, ◌-◌, ℕ, List, [], ◌++◌, length, take, drop, Some}
 use Rattle.dn_line.specs.declared.code.Code.{Code}
 use Rattle.dn_arc_lines.specs.State.Reading.{ArcLinesAt, Hands, fault_of}
 use Rattle.dn_arc_lines.proofs.arc_lines.ArcLines.feed.Given as goal
@@ -9,6 +9,7 @@ invariant-loop-used l =
       within : l.used ≤ length l.piece;
       fits : l.count ≤ length l.out;
       again : (code : Code) → fault_of l.fn.self ≡ Some code → (l.used ≡ 0) × (l.count ≡ 0) × (l.self ≡ l.fn.self);
+      rest : drop l.count l.out ≡ drop l.count l.fn.out;
       hands : (t : List ℕ) → ArcLinesAt l.fn.self t → Hands l.self t (t ++ take l.used l.piece) [] (take l.count l.out);
     }
 

@@ -1,9 +1,10 @@
 use Rattle.std.proofs.Common.{◌≡◌, ℕ, List, [], ◌++◌, take, true, false, None, ap, subst, sym, ◌∙◌, append-nil}
 use Rattle.dn_line.specs.State.LineStates.{has_end, used_of, last_line}
 use Rattle.dn_line.proofs.LineEndLaws.{used_within}
+use Rattle.dn_line.proofs.PartsLaws.{Parts}
 use Rattle.dn_line.proofs.LineReaderLaws.{open_of_line, step_follows}
 use Rattle.dn_instance.specs.Readers.{ended}
-use Rattle.dn_instance.proofs.PieceSteps.{ended_then, goes_on}
+use Rattle.dn_instance.proofs.PieceSteps.{ended_then, ends_at, goes_on}
 use Rattle.dn_arc_lines.specs.State.ArcLines.{arc_lines_from}
 use Rattle.dn_arc_lines.specs.State.Reading.{HasLines}
 use Rattle.dn_arc_lines.proofs.arc_lines.ArcLines.step.Goals as goal
@@ -22,6 +23,7 @@ returns-in-Ok-clause-hands c t h =
       stands = record {
         read = subst (HasLines c.close.new.self) (sym (ended_then t p e)) adds.read;
         line = record { line = last_line u; stands = rw c.close.ensures.line line; open_is = open_of_line u };
+        stops = λ code is. ap (λ (q : Parts). q.1) (ends_at t p e);
       };
       rows = adds.rows;
       out_is = adds.out_is;
@@ -41,6 +43,7 @@ returns-in-Ok-2-clause-hands c t h =
       stands = record {
         read = rw (goes_on t p e) h.read;
         line = record { line = last_line u; stands = line; open_is = open_of_line u };
+        stops = λ code is. absurd (let none = c.requires.fine in cc);
       };
       rows = [];
       out_is = sym (append-nil _);

@@ -15,7 +15,7 @@ returns-clause-taken c ls h =
     let u : ReadUpTo kind 97 piece rows read.0 = rw (c.rows-rows.ensures.rows, ← letter) read.1 in
     takes old _ kind ls piece read.0 rows c.saturating_sub.result _ _ h c.requires.fine c.in_ok-kind.was u
     (omega (arith, c.if-self.false, c.rows-rows.ensures.few))
-    (c.saturating_sub.ensures ∙ rw c.left_behind.ensures) refl c.put_rows.ensures
+    (c.saturating_sub.ensures ∙ rw c.left_behind.ensures) refl c.put_rows.ensures.rows
 
 pub returns-clause-some : goal.returns-clause-some
 returns-clause-some c =

@@ -1,6 +1,6 @@
 use Rattle.std.proofs.Common.{length, refl, arith, ap, ◌∙◌}
 use Rattle.dn_line.specs.declared.kind.Kind.TheVariants as Kinds
-use Rattle.dn_arc.specs.Entries.{cap_sizes, cost_sizes, length_sizes}
+use Rattle.dn_arc.specs.Entries.{cap_entries, cost_entries, length_entries}
 use Rattle.dn_arc.specs.Kinds.{capacities, costs, lengths}
 use Rattle.dn_arc.specs.declared.arc.Form.TheVariants.{One}
 use Rattle.dn_bundle.specs.State.Listings.{curve_arcs, least_arcs, total_arcs}
@@ -11,17 +11,17 @@ use Rattle.dn_instance.proofs.body.Body+TableSoFar+Curve+TableSoFar+Total+TableS
 pub returns-in-Min : goal.returns-in-Min
 returns-in-Min c =
     rw c.in-Min.is
-    (table_counted Kinds.Min costs cost_sizes cost_arc_in (curve_arcs One) _ _ (λ items. refl) c.entries.ensures)
+    (table_counted Kinds.Min costs cost_entries cost_arc_in (curve_arcs One) _ _ (λ items. refl) c.entries.ensures)
 
 pub returns-in-Max : goal.returns-in-Max
 returns-in-Max c =
     rw c.in-Max.is
-    (table_counted Kinds.Max capacities cap_sizes cap_arc_in total_arcs _ _ (λ items. refl) c.entries-in-Max.ensures)
+    (table_counted Kinds.Max capacities cap_entries cap_arc_in total_arcs _ _ (λ items. refl) c.entries-in-Max.ensures)
 
 pub returns-in-Sp : goal.returns-in-Sp
 returns-in-Sp c =
     rw c.in-Sp.is
-    (table_counted Kinds.Sp lengths length_sizes length_arc_in least_arcs _ _ (λ items. refl) c.entries-in-Sp.ensures)
+    (table_counted Kinds.Sp lengths length_entries length_arc_in least_arcs _ _ (λ items. refl) c.entries-in-Sp.ensures)
 
 pub returns-in-Ss : goal.returns-in-Ss
 returns-in-Ss c = rw c.in-Ss.is (λ items h few. omega (arith, c.len.ensures, c.in-Ss.ids.ok, ap length h))

@@ -4,5 +4,14 @@ use Rattle.dn_laws.proofs.reports.examples.fault_lines.Goals as goal
 
 pub returns : goal.returns
 unfolding digits
-returns c =
-    record { line = refl; end = refl; read = refl; memory = refl; write = refl; node = refl; unfit = refl }
+returns c = record {
+  line = refl;
+  end = refl;
+  read = refl;
+  memory = refl;
+  endless = refl;
+  write = refl;
+  too_large = refl;
+  node = refl;
+  unfit = refl;
+}

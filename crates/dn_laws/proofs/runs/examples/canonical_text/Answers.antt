@@ -1,19 +1,16 @@
-use Rattle.std.proofs.Common.{◌≡◌, ◌≤◌, ◌^◌, ℕ, List, [], Some, codes, inl, inr, refl, ◌∙◌, arith}
+use Rattle.std.proofs.Common.{◌≤◌, ◌^◌, ℕ, List, [], Option, Some, codes, inl, inr, refl, ◌∙◌, arith}
 use Rattle.std.specs.Fmt.{digits}
 use Rattle.dn_arc.specs.declared.arc.Form.TheVariants.{One}
 use Rattle.dn_arc.proofs.CurvesLaws.{curve_meaning}
 use Rattle.dn_instance.specs.Instances.{Instance}
 use Rattle.dn_instance.specs.Texts.{Reads}
-use Rattle.dn_instance.specs.declared.refusal.Refusal.TheVariants.{Text, Memory, Read, Endless, Write, CountTooLarge}
 use Rattle.dn_instance.proofs.FirstFaults.{clean_is, not_both}
 use Rattle.dn_instance.proofs.SameLaws.{refl_of, sym_of, trans_of}
 use Rattle.dn_canon.specs.CanonInstances.{IsCanonInstanceOf}
 use Rattle.dn_canon.specs.CanonTexts.{IsCanonOf, IsTooLarge}
 use Rattle.dn_canon.proofs.TextLaws.{canon_one, texts_agree}
 use Rattle.dn_command.specs.Commands.{Canon}
-use Rattle.dn_run.specs.Answers.{Answer, Done, Refused, Unfit, Cut, Tells, status_of}
-use Rattle.dn_run.specs.Details.{in_brief}
-use Rattle.dn_run.specs.Runs.{Performs}
+use Rattle.dn_run.specs.Statuses.{EndsAs, wrote, faulty, failed}
 use Rattle.dn_laws.specs.State.BundleExamples.{worked, worked_one}
 use Rattle.dn_laws.specs.State.RunExamples.{Gives, took}
 use Rattle.dn_laws.specs.State.TextExamples.{on_one_pair}
@@ -54,27 +51,21 @@ not_too_large (K, k, large) =
     few : 2 ^ 63 ≤ 5 → ⊥
     few h = omega (arith, h)
 
-by_answer : (out err : List ℕ) (status : ℕ) (answer : Answer) → status ≡ status_of answer
-    → Performs (in_brief (λ name. Some text)) (took out) (Canon (codes "x.min") One) answer → Tells (took err) answer
+abbrev behind : List ℕ → Option (List ℕ)
+behind name = Some text
+
+by_end : (out err : List ℕ) (status : ℕ) → EndsAs behind (took out) (took err) (Canon (codes "x.min") One) status
     → Gives 0 canon [] out err status
-by_answer out err status (Done n) is p tells =
-    let (I, reads, t, (zero, of), taken) = p.handed refl in
-    let same = one_instance text I instance reads read in
-    let text_is = (texts_agree One t canon instance instance (rw same at of) printed).1 (refl_of instance) in
-    inl (is ∙ zero, taken ∙ text_is, tells)
-by_answer out err status (Refused name (Text place code)) is p tells =
-    absurd (not_both text instance place code read ((p.handed refl).1))
-by_answer out err status (Refused name Memory) is p tells = inr is
-by_answer out err status (Refused name Read) is p tells = inr is
-by_answer out err status (Refused name Endless) is p tells = inr is
-by_answer out err status (Refused name Write) is p tells = absurd ((p.handed refl).1)
-by_answer out err status (Refused name CountTooLarge) is p tells =
-    let (I, reads, large) = (p.handed refl).1 in
-    absurd (not_too_large (rw (one_instance text I instance reads read) at large))
-by_answer out err status (Unfit name why) is p tells = let (I, reads, same, never) = p.handed refl in absurd never
-by_answer out err status Cut is p tells = inr is
+by_end out err status (inl (wrote b I t are reads puts written)) =
+    let same = one_instance text I instance (rw are reads) read in
+    let text_is = (texts_agree One t canon instance instance (rw same at puts.1) printed).1 (refl_of instance) in
+    inl (puts.0, written.took ∙ text_is, written.silent)
+by_end out err status (inl (faulty place code first two refused)) =
+    absurd (not_both text instance place code read first)
+by_end out err status (inl (failed h)) = inr h.0
+by_end out err status (inr large) =
+    let (I, reads, too_large) = large.large in
+    absurd (not_too_large (rw (one_instance text I instance reads read) at too_large))
 
 pub returns : goal.returns
-returns c out err status r =
-    let run = (r.asked (Canon (codes "x.min") One) refl).once refl in
-    by_answer out err status run.answer run.status_is run.performs run.tells
+returns c out err status r = by_end out err status (r.once (Canon (codes "x.min") One) refl refl)

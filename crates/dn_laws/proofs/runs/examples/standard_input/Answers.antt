@@ -5,5 +5,5 @@ use Rattle.dn_laws.proofs.runs.examples.standard_input.Goals as goal
 
 pub returns : goal.returns
 returns c behind out err status r =
-    let refused = (r.asked (Compare (codes "-") (codes "-")) refl).twice refl in
-    inl (refused.status_is, refused.out_stays, took_line err _ refused.tells)
+    let (three, refused) = r.twice (Compare (codes "-") (codes "-")) refl refl in
+    inl (three, refused.out_stays, took_line err _ refused.tells)

@@ -1,7 +1,7 @@
 use Rattle.std.proofs.Common.{ℕ, List, Option, inl, inr, sym}
 use Rattle.std.proofs.lemmas.Bool.{cases_Bool}
 use Rattle.dn_command.specs.Commands.{Asked, names_twice}
-use Rattle.dn_run.specs.Details.{in_brief}
+use Rattle.dn_run.specs.State.Briefs.{in_brief}
 use Rattle.dn_run.specs.Runs.{CommandRun}
 use Rattle.dn_run.specs.State.NotAccepted.{NotAccepted}
 use Rattle.dn_run.specs.Streams.{SinkRun}

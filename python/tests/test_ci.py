@@ -1,0 +1,130 @@
+"""Tests the files for CI services: the steps of python/ci/github.yml run on a repository with texts, with the files of
+a release that is made of the tested program and the package; and the hook in .pre-commit-hooks.yaml checks files as
+pre-commit calls it."""
+
+import os
+import re
+import shutil
+import tarfile
+import textwrap
+from xml.etree import ElementTree
+
+from known import ROADS
+from needs import leave_out
+from shared import ROOT, Answer, listed, run, said, text_of, write
+from test_calls import READS
+from test_folders import fields_of_hook
+
+pytestmark = READS
+WORKFLOW = f"{ROOT}/python/ci/github.yml"
+VERSION = "1.2.3"
+# A step that runs commands, perhaps always, and a value of the job's environment.
+STEP = re.compile(r"^( +if: always\(\)\n)? +run: \|\n((?: {10}.*\n)+)", re.M)
+VALUE = re.compile(r"^ {6}(\w+): (\S+)$", re.M)
+
+
+def make_release(tested: str, c_library: str) -> None:
+    """Makes the files of a release in the folder `release`."""
+    os.mkdir("release")
+    name = f"dnorm-{VERSION}-x86_64-linux"
+    with tarfile.open(f"release/{name}.tar.gz", "w:gz") as archive:
+        archive.add(os.path.realpath(tested), f"{name}/bin/dnorm")
+        archive.add(f"{ROOT}/bin/dnorm-files", f"{name}/bin/dnorm-files")
+        link = tarfile.TarInfo(f"{name}/dnorm-files")
+        link.type, link.linkname = tarfile.SYMTYPE, "bin/dnorm-files"
+        archive.addfile(link)
+        archive.add(f"{c_library}/lib/libdnorm.so.3", f"{name}/lib/libdnorm.so.3")
+        for _, place, _ in listed():
+            if place.startswith(("python/src/", "web/")):
+                archive.add(f"{ROOT}/{place}", f"{name}/{place}")
+    sums = run(["bash", "-c", "cd release && sha256sum dnorm-*"]).out
+    write("release/SHA256SUMS", sums)
+
+
+class Runner:
+    """Runs the steps of the workflow as the service does, in the folder `texts`."""
+
+    def __init__(self) -> None:
+        text = text_of(WORKFLOW)
+        self.steps = [(bool(always), textwrap.dedent(it)) for always, it in STEP.findall(text)]
+        here = os.getcwd()
+        self.environment = {it: value for it, value in os.environ.items() if it not in ("DNORM_LIBRARY", "PYTHONPATH")}
+        self.environment |= dict(VALUE.findall(text))
+        self.environment |= {"RELEASE": f"file://{here}/release", "VERSION": VERSION, "PYTHONDONTWRITEBYTECODE": "1"}
+        self.environment |= {"RUNNER_TEMP": f"{here}/temp", "GITHUB_PATH": f"{here}/path", "GITHUB_ENV": f"{here}/env"}
+
+    def run(self) -> list[Answer]:
+        """Returns what the steps print: those up to the first that fails, and those that run always."""
+        shutil.rmtree("temp", ignore_errors=True)
+        os.mkdir("temp")
+        found: list[Answer] = []
+        for name in ["path", "env"]:
+            write(name, "")
+        for always, step in self.steps:
+            if any(it.status for it in found) and not always:
+                continue
+            added = dict(it.split("=", 1) for it in text_of("env").splitlines())
+            path = ":".join([*text_of("path").splitlines(), os.environ["PATH"]])
+            environment = {**self.environment, **added, "PATH": path}
+            found.append(run(["bash", "-e", "-c", step], cwd="texts", env=environment))
+        return found
+
+
+def test_workflow(tested: str, c_library: str) -> None:
+    """The steps of the workflow, and that it fetches the release of this version."""
+    version = run([tested, "--version"]).out.decode().split()[1]
+    # Between releases, it fetches the last one.
+    if "-" not in version:
+        assert dict(VALUE.findall(text_of(WORKFLOW)))["VERSION"] == version, "the release that it fetches"
+    if not shutil.which("curl"):
+        leave_out("curl")
+    make_release(tested, c_library)
+    os.makedirs("texts/below")
+    write("texts/below/roads.gr", ROADS)
+    runner = Runner()
+    assert len(runner.steps) == 3, "the steps"
+    assert re.search(r"checkout@.*\n +with:\n +lfs: true\n +submodules: recursive\n", text_of(WORKFLOW)), "all of it"
+    found = runner.run()
+    wanted = Answer(b"", b"1 accepted, 0 refused, 0 failed\n", 0)
+    assert (found[1], found[2].status, len(found)) == (wanted, 0, 3), "a repository of accepted texts"
+    assert ">1 accepted, 0 refused, 0 failed; status 0<" in text_of("temp/dnorm.html"), "its page"
+    write("texts/bad.gr", b"p sp 1 1\n")
+    write("texts/a:b,c.ss", b"p aux sp ss 0\n")
+    lines = b"::warning file=a%3Ab%2Cc.ss::./a:b,c.ss: accepted ss, no graph\n"
+    lines += b"::error file=bad.gr,title=dnorm%3A 20 TooFewLines::./bad.gr:end: 20 TooFewLines%0AThere are fewer "
+    lines += b"counted lines than declared.%0Adeclared 1, found 0: only a, s, q and v lines count\n"
+    wanted = Answer(lines, b"2 accepted, 1 refused, 0 failed, 1 companion without a graph\n", 2)
+    assert runner.run()[1] == wanted, "a repository with a refused text and a companion alone"
+    assert ">2 accepted, 1 refused, 0 failed, " in text_of("temp/dnorm.html"), "its page"
+    suite = ElementTree.parse("temp/dnorm.xml").find("testsuite")
+    assert (suite is not None and suite.get("failures")) == "1", "its report"
+    shutil.rmtree("texts")
+    os.mkdir("texts")
+    assert runner.run()[1].status == 4, "a repository without texts"
+    write(f"release/dnorm-{VERSION}-x86_64-linux.tar.gz", b"other")
+    found = runner.run()
+    assert (len(found), found[0].status) == (2, 1), "a release with another checksum"
+
+
+def test_pre_commit() -> None:
+    """The hook for pre-commit, and how it is called."""
+    fields = fields_of_hook()
+    wanted = {"id": "dnorm", "language": "script", "require_serial": "true"}
+    assert {it: fields.get(it) for it in wanted} == wanted, "the hook"
+    assert [fields["types"], fields["types_or"]] == ["[]", "[file, symlink]"], "its types"
+    script = f"{ROOT}/{fields['entry']}"
+    environment = {it: value for it, value in os.environ.items() if it != "PYTHONPATH"}
+    environment["PYTHONDONTWRITEBYTECODE"] = "1"
+    write("a.gr", ROADS)
+    write("-b.gr", b"x\n")
+    write("a.max", ROADS)
+    other = "its ending is that of max"
+    rows: list[tuple[list[str], str, str, int]] = [
+        (["a.gr"], "", "1 accepted, 0 refused, 0 failed", 0),
+        (["a.gr", "-b.gr"], "-b.gr:1: 1 BadLine\n", "1 accepted, 1 refused, 0 failed", 2),
+        (["a.max"], f"a.max: accepted sp, {other}\n",
+         "1 accepted, 0 refused, 0 failed, 1 file of another kind than its ending", 0),
+        (["--strict", "a.max"], f"a.max: 31 Read (accepted sp, {other})\n", "0 accepted, 0 refused, 1 failed", 4),
+    ]  # fmt: skip
+    for words, out, count, status in rows:
+        assert run([script, *words], env=environment) == said(out, f"{count}\n", status), words

@@ -1,0 +1,195 @@
+"""Tests what `dnorm-files` has in common with `dnorm`: `canon` and `show` of files as people have them, standard input
+and output as `-`, options before the command, what is said of a command line that is refused, and that a terminal shows
+each refusal once."""
+
+import gzip
+import os
+import re
+
+from known import COSTS, FLOWS, ROADS, ROADS_CANON
+from shared import bytes_of, make, run, said, write
+from test_calls import COMPRESS, READS
+from test_folders import LETTERS, SENTENCES, X, by_shell, hidden, module, on_terminal, prints
+from test_manifests import ABOUT
+
+import dnorm
+
+pytestmark = READS
+TEXTS = {"a.gr": ROADS, "b.min": COSTS, "c.max": FLOWS, "d.ss": b"p aux sp ss 2\ns 3\ns 1\n"}
+TEXTS |= {"e.p2p": b"p aux sp p2p 1\nq 1 2\n", "f.co": b"p aux sp co 1\nv 1 -5 0\n", "g.gr": b"p sp 0 0\n"}
+TEXTS |= {"h.min": b"p min 3 3\nn 2 0\nn 1 4\na 1 2 3 9 -2\na 1 2 1 1 7\na 3 3 0 0 1\n"}
+
+
+def test_as_program(tested: str) -> None:
+    """`canon` and `show` print what the program prints, also of compressed files and of standard input."""
+    for name, text in TEXTS.items():
+        ending, compress = list(COMPRESS.items())[len(name + str(len(text))) % 3]
+        make({name: text, f"packed/{name}{ending}": compress(text)})
+        for words in (["canon"], ["canon", "--form", "2"], ["show"]):
+            wanted = run([tested, *words, name])
+            assert module(*words, name) == wanted, f"{words} {name}"
+            assert module(*words, f"packed/{name}{ending}") == wanted, f"{words} of a compressed {name}"
+            assert module(*words, "-", given=text) == wanted, f"{words} of standard input, {name}"
+    one, other = (run([tested, "show", it]).out.decode() for it in ("a.gr", "b.min"))
+    prints("show b.min a.gr", f"a.gr:\n{one}b.min:\n{other}", "2 shown, 0 refused, 0 failed\n")
+
+
+def test_output() -> None:
+    """`canon -o` writes all of a text or nothing."""
+    make({"a.gr": ROADS, "bad.gr": b"x\n", "out.gr": b"old"})
+    prints("canon a.gr -o out.gr.gz", "")
+    assert gzip.decompress(bytes_of("out.gr.gz")) == ROADS_CANON
+    prints("canon a.gr --output -", ROADS_CANON.decode())
+    prints("canon bad.gr -o out.gr", "", f"bad.gr:1: 1 BadLine\n{X}", 2)
+    assert (bytes_of("out.gr"), hidden()) == (b"old", [])
+    prints("canon none -o out.gr", "", "none: 31 Read (No such file or directory)\n", 4)
+    assert by_shell("dnorm canon a.gr > /dev/full") == said("", "out: 33 Write (No space left on device)\n", 4)
+
+
+def test_standard_streams(tested: str) -> None:
+    """`-` is standard input or output wherever a file may stand."""
+    make({"a.gr": ROADS, "bad.gr": b"p sp 2 1\na 1 3 5\n"})
+    prints("check -", "-: accepted sp\n", "1 accepted, 0 refused, 0 failed\n", given=ROADS)
+    cause = (
+        f"-:2: 13 NodeOutOfRange\n{SENTENCES[13]}    line 2: a 1 3 5\n                ^\n    a SRC=1 DST=3 LENGTH=5\n"
+    )
+    cause += "    NODES 2: nodes count from 1\n"
+    count = "0 accepted, 1 refused, 0 failed\n"
+    for given in ["< bad.gr", "< <(cat bad.gr)"]:
+        wanted = said("-:2: 13 NodeOutOfRange\n", cause + count, 2)
+        assert by_shell(f"dnorm check - {given}") == wanted, f"standard input by {given}"
+    listed = module("list", "-", given=ROADS).out.decode()
+    assert listed == module("list", "a.gr").out.decode().replace("a.gr", "-", 1)
+    sums = module("manifest", "a.gr").out
+    assert module("manifest", "--output", "-", "a.gr").out == sums
+    prints("manifest --verify -", "a.gr: same\n", "1 the same, 0 different, 0 refused, 0 failed\n", given=sums)
+    assert b"a.gr is now ./b.gr" in by_shell("mkdir s; mv a.gr s/b.gr; cd s; dnorm look --since - .", given=sums).out
+    prints("check --files-from - bad.gr -q", "bad.gr:2: 13 NodeOutOfRange\n", f"1{count[1:]}", 2, given=b"s/b.gr\n")
+    report = module("check", "--junit", "-", "s/b.gr").out
+    assert (report[:5], report.count(b"<testcase")) == (b"<?xml", 1)
+    prints("compare - s/b.gr", "same\npairs: 0 only left, 0 only right, 5 in both, 0 of them different\n", given=ROADS)
+    prints("compare - s/b.gr", "", f"-:1: 1 BadLine\n{X}", 2, given=b"x\n")
+
+
+def test_words() -> None:
+    """Options may precede the command, and a command line that is refused is told in a line."""
+    make({"a.gr": ROADS, "-x.gr": ROADS})
+    for words in ["-q check a.gr", "check -q a.gr", "--jobs 2 -q check a.gr"]:
+        prints(words, "", "1 accepted, 0 refused, 0 failed\n")
+    needs = "needs a command: check, manifest, same, list, compare, canon, show, look, explain, parts"
+    for words, line in {
+        "": f"dnorm-files: it {needs}", "--foo": f"dnorm-files: --foo {needs}",
+        "check --foo a.gr": "dnorm-files check: there is no option --foo",
+        "compare a b c": "dnorm-files compare: 'c' is one word too many",
+        "chek a.gr": "dnorm-files: no command chek: the nearest is check",
+        "diff a b": "dnorm-files: no command diff: the nearest is compare",
+        "a.gr": "dnorm-files: a command comes before the file: dnorm-files check a.gr",
+        "check -x.gr": "dnorm-files check: argument -x/--exit-first: ignored explicit argument '.gr'"
+                       "; for the file: -- -x.gr",
+    }.items():  # fmt: skip
+        prints(words, "", f"{line} (--help tells more)\n", 3)
+    prints("check -- -x.gr", "-x.gr: accepted sp\n", "1 accepted, 0 refused, 0 failed\n")
+    assert module("help", "check") == module("check", "--help") and module("help") == module("--help")
+    for words in ["--help", "check --help", "--version"]:
+        found = by_shell(f"dnorm {words} > /dev/full")
+        assert (found.err, found.status) == (b"out: 33 Write (No space left on device)\n", 4), words
+
+
+def test_own_names(tested: str) -> None:
+    """`explain` and `parts` are dnorm-explain and canon-in-parts."""
+    make({"a.gr": ROADS, "bin/dnorm": b""})
+    os.remove("bin/dnorm")
+    os.symlink(tested, "bin/dnorm")
+    own = f"PATH={os.getcwd()}/bin:$PATH dnorm"
+    cause = f"-:1: 1 BadLine\n{X}"
+    assert by_shell(f"{own} explain check -", given=b"x\n") == said("", cause, 2)
+    long = by_shell(f"(echo x; yes) | PATH={os.getcwd()}/bin:$PATH timeout 20 $PYTHON -m dnorm explain check -")
+    assert (long.err.decode().replace(X, ""), long.status) == ("-:1: 1 BadLine\n", 2), "a stream without an end"
+    assert by_shell(f"{own} explain check - < a.gr") == said("accepted sp\nforms none\n")
+    assert (
+        by_shell("dnorm explain", given=b"-:1: 1 BadLine\n").out.decode()
+        == f"-:1: 1 BadLine\n{SENTENCES[1]}    {LETTERS}\n"
+    )
+    for word in ["13", "NodeOutOfRange"]:
+        prints(f"explain {word}", f"13 NodeOutOfRange: {SENTENCES[13].strip()}\n")
+    assert by_shell(f"{own} parts --lines 3 a.gr") == said(ROADS_CANON)
+
+
+def test_once() -> None:
+    """A terminal shows a refusal once, with its cause below it; a stream first all lines, and then the causes."""
+    make({"a.gr": ROADS, "x.gr": b"x\n"})
+    told, status = on_terminal("check", "a.gr", "x.gr", "none")
+    lines = re.sub(r"\r[^\n]*\r", "", told)
+    wanted = f"a.gr: accepted sp\nnone: 31 Read (No such file or directory)\nx.gr:1: 1 BadLine\n{X}"
+    assert (lines, status) == (f"{wanted}1 accepted, 1 refused, 1 failed\n", 4)
+    assert on_terminal("check", "-q", "x.gr")[0].count("BadLine") == 1
+
+
+def test_one_and_two() -> None:
+    """Words and numbers on each side of their borders: one file and two, a byte and bytes, a supply of one unit."""
+    make({"a.gr": ROADS, "b.gr": ROADS})
+    heads = [module("manifest", *names).out.decode().partition("\n")[0] for names in (["a.gr"], ["a.gr", "b.gr"])]
+    assert heads == [f"# form 1, 1 file{ABOUT}", f"# form 1, 2 files{ABOUT}"]
+    found = dnorm.check_folder("a.gr").manifest
+    assert "<td>name</td><td>checksum</td>" in found._repr_html_()
+    for zeros, what in [(1, "1 zero byte follows"), (2, "2 zero bytes follow")]:
+        write("z.gr.bz2", COMPRESS[".bz2"](ROADS) + bytes(zeros))
+        prints(
+            "check -q z.gr.bz2",
+            f"z.gr.bz2: 31 Read ({what} the compressed data)\n",
+            "0 accepted, 0 refused, 1 failed\n",
+            4,
+        )
+    for units in [0, 1, 2]:
+        told = module("list", "-", given=f"p min 2 0\nn 1 {units}\nn 2 -{units}\n".encode()).out.decode()
+        assert f" supply {units}, demand {units}\n" in told
+    for text, fields in [(b"p sp 1 1\n", "file=-"), (b"p sp 1 1\nx\n", "file=-,line=2")]:
+        assert module("check", "--output-format", "github", "-", given=text).out.startswith(
+            f"::error {fields},title=".encode()
+        )
+    make({"set/a.gr.Z": b"", "set/b.gr.gz.Z": b"", "set/c.GRZ": b"", "set/d.md5": b"", "set/e.MD5": b"", "set/f": b""})
+    lines = ["a.gr.Z: 31 Read (compress is not supported)", "b.gr.gz.Z: 31 Read (.gz.z is not supported)"]
+    lines.append("c.GRZ: 31 Read (.grz is not supported)")
+    count = "0 accepted, 0 refused, 3 failed\n3 other files: .md5 2, no ending 1; --strict refuses them\n"
+    prints("check -q set", "".join(f"set/{it}\n" for it in lines), count, 4)
+
+
+def test_gone_folder() -> None:
+    """A current folder that is gone is a failure, and no traceback."""
+    make({"a.gr": ROADS})
+    for words in ["check --junit x.xml .", "manifest --output x .", "check .", "list x.gr", "look .", "canon x -o y"]:
+        found = by_shell(f"mkdir gone; cd gone; rmdir ../gone; dnorm {words}")
+        assert (found.status, b"Traceback" in found.err) == (4, False), found.err
+    found = module("check", "-q", "--exclude", "old/", "--exclude", "*.max", "--exclude", "a.*", "a.gr", ".")
+    assert found.err.decode().splitlines()[:2] == [f"--exclude {it}: nothing matches it" for it in ("old/", "*.max")]
+
+
+def test_one_place() -> None:
+    """`look --since` and `manifest --verify` know a file by its place, however it is named."""
+    make({"maps/a.gr": ROADS, "maps/b.min": COSTS})
+    module("manifest", "--output", "list", "maps")
+    os.symlink("maps", "link")
+    for path in ["./maps", os.path.abspath("maps"), "maps/../maps", "link"]:
+        page = module("look", "--since", "list", path).out.decode()
+        assert "is now" not in page and ">the same 2<" in page, path
+        prints(f"manifest --verify list -q {path}", "", "2 the same, 0 different, 0 refused, 0 failed\n")
+
+
+def test_twins() -> None:
+    """A companion of -d or -t belongs to the graph of the other one, if there is none of its own name."""
+    points = b"p aux sp co 1\nv 1 0 0\n"
+    make({"USA-road-t.NY.gr": ROADS, "USA-road-d.NY.co": points, "x-d.gr": b"p sp 1 0\n", "x-t.gr": ROADS})
+    make(
+        {
+            "x-t.ss": b"p aux sp ss 1\ns 3\n",
+            "x-d.p2p": b"p aux sp p2p 1\nq 1 3\n",
+            "y-d.x.y.gr": ROADS,
+            "y-t.x.y.co": points,
+        }
+    )
+    found = module("check", "--companions", ".")
+    lines = [it for it in found.out.decode().splitlines() if not it.endswith(": accepted sp")]
+    assert lines == [
+        "./USA-road-d.NY.co: accepted co, fits ./USA-road-t.NY.gr", "./x-d.p2p: 35 NotInGraph 3",
+        "./x-t.ss: accepted ss, fits ./x-t.gr", "./y-t.x.y.co: accepted co, no graph",
+    ]  # fmt: skip
