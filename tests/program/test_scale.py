@@ -359,7 +359,8 @@ def test_old_python(scale: Scale, name: str) -> None:
     assert run(words, SUPPLIES) == said(b"", b"canon-in-parts: it needs Python 3.9 or later\n", 4)
 
 
-# A host of GNU parallel in place of ssh: a folder, which is home there, and a network of its own.
+# A host of GNU parallel in place of ssh: a folder, which is home there, and a network of its own. A login sets SHELL:
+# without it, GNU parallel runs nothing and says nothing.
 HOST = """#!/bin/bash
 while [[ $1 == -* ]]; do
     [[ $1 == -[lopFSi] ]] && shift
@@ -369,7 +370,7 @@ host=$1
 shift
 [[ $1 != -- ]] || shift
 echo "$host" >> "$HOSTS/log"
-cd "$HOSTS/$host" && HOME=$PWD exec unshare --map-root-user --net bash -c "$*"
+cd "$HOSTS/$host" && HOME=$PWD SHELL=$BASH exec unshare --map-root-user --net bash -c "$*"
 """
 
 
@@ -386,7 +387,7 @@ def test_many_machines(scale: Scale, folder: str) -> None:
     write("citation/will-cite", "")
     for name, target in [("canon-in-parts", SCRIPT), ("dnorm", scale.program)]:
         os.symlink(target, f"bin/{name}")
-    texts = {f"texts/t{at}.gr": f"p sp {at + 9} 1\na {at + 1} {at + 2} 3\n" for at in range(6)}
+    texts = {f"texts/t{at}.gr": f"p sp {at + 9} 2\na {at + 2} 1 4\na {at + 1} {at + 2} 3\n" for at in range(6)}
     for name, text in texts.items():
         write(name, text)
     own = {**os.environ, "PATH": f"{folder}/bin:{os.environ['PATH']}", "HOSTS": f"{folder}/hosts", "HOME": folder}
@@ -395,11 +396,11 @@ def test_many_machines(scale: Scale, folder: str) -> None:
     found = run(command, cwd="texts", env=own)
     assert (found.status, os.listdir("hosts/one"), os.listdir("hosts/two")) == (0, [], []), found.err
     for name, text in texts.items():
-        assert bytes_of(f"texts/canon/{name[6:]}") == run([scale.program, "canon", "-"], text.encode()).out
+        assert bytes_of(f"texts/canon/{name[6:-3]}.form1.gr") == run([scale.program, "canon", "-"], text.encode()).out
     log = [it.split("\t") for it in text_of("texts/canon.log").splitlines()[1:]]
     assert ({it[1] for it in log}, {it[6] for it in log}, len(log)) == ({"one", "two"}, {"0"}, 6)
     shutil.rmtree("texts/canon")
     write("texts/t0.gr", "x\n")
     found = run([*command[:2], recipe.replace("HOST,:", "1/one")], cwd="texts", env=own)
     assert (b"t0.gr:1: 1 BadLine" in found.err, found.status != 0) == (True, True), found.err
-    assert not os.path.exists("texts/canon/t0.gr") and len(text_of("texts/canon.log").splitlines()) < 7
+    assert not os.path.exists("texts/canon/t0.form1.gr") and len(text_of("texts/canon.log").splitlines()) < 7
