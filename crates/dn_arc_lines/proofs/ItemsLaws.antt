@@ -9,7 +9,8 @@ use Rattle.dn_line.specs.declared.kind.Kind.{Kind}
 use Rattle.dn_line.specs.declared.kind.Kind.TheVariants as Kinds
 use Rattle.dn_line.specs.declared.line.Line.{Line}
 use Rattle.dn_line.specs.declared.line.Line.TheVariants as Item
-use Rattle.dn_line.specs.Pieces.{if_any, is_line_feed, lines, parts}
+use Rattle.dn_line.specs.Pieces.{is_line_feed, lines, parts}
+use Rattle.dn_line.specs.State.LineStates.{if_any}
 use Rattle.dn_line.specs.Words.{is_skip, said_words}
 use Rattle.dn_line.specs.Faults.{first_fault, field_tests, fields, head_tests}
 use Rattle.dn_line.specs.Reading.{spelled, words_read}

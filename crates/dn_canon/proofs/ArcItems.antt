@@ -26,7 +26,8 @@ use Rattle.dn_arc.specs.Pairs.{bundle, same_pair}
 use Rattle.dn_instance.specs.Instances.{Graph}
 use Rattle.dn_instance.specs.Validity.{Fits, IsNode, IsPlaced, IsValidGraph}
 use Rattle.dn_instance.specs.Items.{counted, is_counted, arcs_of, length_arc_in, cap_arc_in, cost_arc_in, supply_in}
-use Rattle.dn_instance.specs.TextFaults.{ids_in, is_companion, is_stray, item_tests}
+use Rattle.dn_instance.specs.TextFaults.{ids_in, is_stray, item_tests}
+use Rattle.dn_line.specs.LineTable.{is_companion}
 use Rattle.dn_instance.proofs.SumLaws.{passes, total_passes, cost_passes}
 use Rattle.dn_canon.specs.Prints.{arc_row}
 use Rattle.dn_canon.proofs.ItemLaws.{AllFollow, spells_by}

@@ -6,10 +6,10 @@ use Rattle.std.proofs.lemmas.List.Elements.{filter_map-append}
 use Rattle.std.specs.List.{AllByRecursion, filter_map}
 use Rattle.std.specs.Ordering.{int_eq}
 use Rattle.std.specs.Option.{option_map}
+use Rattle.std.specs.Result.{result_unwrap_or}
 use Rattle.dn_num.proofs.ShortestLaws.{decimal_reads}
 use Rattle.dn_num.specs.Number.{number_read}
 use Rattle.dn_line.specs.Names.{kind_name}
-use Rattle.dn_line.specs.Reading.{number_or_zero}
 use Rattle.dn_line.specs.declared.kind.Kind.{Kind}
 use Rattle.dn_line.specs.declared.kind.Kind.TheVariants as Kinds
 use Rattle.dn_line.specs.declared.kind.Letter.TheVariants as Letters
@@ -141,7 +141,7 @@ head_is I = record { words = words I; kind = kind I; declares = declares I }
 
 -- NODES in the words of a problem line; 0 for a companion
 abbrev pub nodes_in : Cells → ℤ
-nodes_in (p ∷ name ∷ nodes ∷ arcs ∷ []) = number_or_zero (number_read nodes)
+nodes_in (p ∷ name ∷ nodes ∷ arcs ∷ []) = result_unwrap_or (number_read nodes) (pos 0)
 nodes_in _ = pos 0
 
 -- NODES of the problem line is that of the instance

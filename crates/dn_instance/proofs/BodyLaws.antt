@@ -15,7 +15,8 @@ use Rattle.dn_arc.specs.State.Bundles.{BundleFacts, meant}
 use Rattle.dn_nodes.specs.State.Nodes.{Gains, Nodes, is_known}
 use Rattle.dn_table.specs.State.Tables.{AreArcs, GraphNeedsMore, TableLists, Stays}
 use Rattle.dn_instance.specs.Items.{arcs_of, length_arc_in, cap_arc_in, cost_arc_in, Problem, problem_of, point_in, by_key}
-use Rattle.dn_instance.specs.TextFaults.{has_point, is_companion, item_tests}
+use Rattle.dn_instance.specs.TextFaults.{has_point, item_tests}
+use Rattle.dn_line.specs.LineTable.{is_companion}
 use Rattle.dn_instance.specs.State.Bodies.{Awaits, IsArcOfRow, Keeps, MapHolds, TableHolds, TookRow}
 use Rattle.dn_instance.specs.State.ItemFaults.{AnswersFault, arc_fault, id_fault, in_graph, pair_fault, point_fault}
 use Rattle.dn_instance.specs.State.RowRuns.{counted_line}

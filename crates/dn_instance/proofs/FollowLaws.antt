@@ -16,7 +16,8 @@ use Rattle.dn_line.specs.Reading.{unless, spelled, words_read}
 use Rattle.dn_line.proofs.FaultLaws.{fault_append}
 use Rattle.dn_line.proofs.SpellingLaws.{faultless_spells}
 use Rattle.dn_instance.specs.Items.{kind_known, is_counted}
-use Rattle.dn_instance.specs.TextFaults.{order_tests, line_tests, item_tests, item_spelled, is_counted_letter, is_late_node, is_surplus}
+use Rattle.dn_instance.specs.TextFaults.{order_tests, line_tests, item_tests, item_spelled, is_counted_letter}
+use Rattle.dn_instance.specs.State.ItemFaults.{is_late_node, is_surplus}
 use Rattle.dn_instance.specs.State.RowRuns.{HasSigns}
 use Rattle.dn_instance.specs.Texts.{with_next}
 use Rattle.dn_instance.specs.State.TextsSoFar.{next_read, fault_next, MayFollow}

@@ -14,7 +14,8 @@ use Rattle.dn_line.specs.declared.kind.Kind.{Kind}
 use Rattle.dn_line.specs.declared.kind.Kind.TheVariants as Kinds
 use Rattle.dn_line.specs.State.Spelling.{kind_before, slots_of}
 use Rattle.dn_instance.specs.Items.{Problem, problem_of, problem_in, kind_known, counted, is_counted}
-use Rattle.dn_instance.specs.TextFaults.{is_arc, is_companion}
+use Rattle.dn_instance.specs.TextFaults.{is_arc}
+use Rattle.dn_line.specs.LineTable.{is_companion}
 use Rattle.dn_instance.specs.State.TextParts.{AnyBody, BodyHolds, MarksHold, body_kind}
 use Rattle.dn_instance.specs.State.RowRuns.{HasRoomFor}
 use Rattle.dn_instance.specs.State.TextsSoFar.{AwaitsRow, HasRead, HoldsBody, problem_as, text_kind}

@@ -18,7 +18,8 @@ use Rattle.dn_line.specs.declared.row_block.RowLine.{RowLine}
 use Rattle.dn_nodes.specs.State.Nodes.{Gains, Nodes, is_known, with_entry}
 use Rattle.dn_arc.specs.Kinds.{capacities, costs, lengths, ArcKind}
 use Rattle.dn_instance.specs.Items.{by_key, cap_arc_in, cost_arc_in, is_counted, length_arc_in, point_in, problem_in, query_in, source_in, supply_in, terminal_in, terminal_of}
-use Rattle.dn_instance.specs.TextFaults.{has_point, has_supply, is_companion}
+use Rattle.dn_instance.specs.TextFaults.{has_point, has_supply}
+use Rattle.dn_line.specs.LineTable.{is_companion}
 use Rattle.dn_instance.specs.State.Bodies.{Keeps, MapHolds, TakesRow, TableHolds}
 use Rattle.dn_instance.specs.State.TextParts.{AnyBody, BodyHolds, MarksHold, body_kind}
 use Rattle.dn_instance.specs.State.TextsSoFar.{HoldsBody}

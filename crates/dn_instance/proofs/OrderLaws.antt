@@ -20,7 +20,8 @@ use Rattle.dn_line.specs.declared.word.Keyword.TheVariants as Key
 use Rattle.dn_line.specs.declared.word.Word.{Word}
 use Rattle.dn_instance.specs.Items.{Problem, counted, kind_known, problem_of}
 use Rattle.dn_instance.specs.State.RowRuns.{AreInTime, IsInTime, IsRowHead, counted_head, row_items, row_line, supply_line}
-use Rattle.dn_instance.specs.TextFaults.{is_arc, is_counted_letter, is_late_node, is_node_letter, is_surplus}
+use Rattle.dn_instance.specs.TextFaults.{is_arc, is_counted_letter, is_node_letter}
+use Rattle.dn_instance.specs.State.ItemFaults.{is_late_node, is_surplus}
 use Rattle.dn_instance.proofs.FirstFaults.{none_first}
 use Rattle.dn_instance.proofs.ItemSteps.{counted_yes, problem_all}
 use Rattle.dn_instance.proofs.RowRunLaws.{not_node, one_counted}

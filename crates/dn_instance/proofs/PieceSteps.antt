@@ -3,8 +3,8 @@ use Rattle.std.proofs.Common.{◌≡◌, ℕ, ◌+◌, ◌-◌, List, [], ◌∷
 use Rattle.std.proofs.lemmas.Bool.{ltb-true, cases_Bool}
 use Rattle.std.proofs.lemmas.List.{length-drop}
 use Rattle.std.specs.List.{position_or_len, before_first, list_all}
-use Rattle.dn_line.specs.Pieces.{parts, has_bytes, if_any, lines, is_line_feed}
-use Rattle.dn_line.specs.State.LineStates.{LineSoFar, has_end, used_of, last_of, last_line, is_inner}
+use Rattle.dn_line.specs.Pieces.{parts, has_bytes, lines, is_line_feed}
+use Rattle.dn_line.specs.State.LineStates.{LineSoFar, has_end, used_of, last_of, last_line, is_inner, if_any}
 use Rattle.dn_line.proofs.PartsLaws.{Parts, parts_run, parts_end, parts_push}
 use Rattle.dn_line.proofs.LineReaderLaws.{ended_push}
 use Rattle.dn_line.proofs.LineEndLaws.{line_ends, line_before, line_used}

@@ -23,7 +23,8 @@ use Rattle.dn_instance.specs.State.RowRuns.{AreFaultless, HasSigns, IsRowHead, J
 use Rattle.dn_instance.specs.State.TextParts.{AnyBody, BodyHolds, MarksHold, body_kind}
 use Rattle.dn_instance.specs.Items.{counted, is_counted, problem_in}
 use Rattle.dn_instance.specs.State.TextsSoFar.{AwaitsRow, HasRead, IsOfRun, RoomFor, TakesRowOf, problem_as, text_kind}
-use Rattle.dn_instance.specs.TextFaults.{is_arc, is_companion, item_tests}
+use Rattle.dn_instance.specs.TextFaults.{is_arc, item_tests}
+use Rattle.dn_line.specs.LineTable.{is_companion}
 use Rattle.dn_instance.specs.declared.marks.Marks.{Marks}
 use Rattle.dn_instance.specs.declared.text_so_far.TextSoFar.{TextSoFar}
 use Rattle.dn_instance.proofs.MarksLaws.{marks_kept, rows_no_mark}

@@ -23,7 +23,9 @@ use Rattle.dn_arc.specs.Pairs.{bundle, same_pair}
 use Rattle.dn_instance.specs.Instances.{Graph, Instance, MaxFlow}
 use Rattle.dn_instance.specs.Validity.{Fits, IsNode, IsId, IsPlaced, IsValidGraph, IsSupply, IsPoint, AreSupplies, AreTerminals, ArePoints, IsValid}
 use Rattle.dn_instance.specs.Items.{Problem, problem_in, problem_of, kind_known, arcs_of, length_arc_in, cap_arc_in, cost_arc_in, by_key, supply_in, supplies_of, terminal_in, terminal_of, source_in, query_in, point_in, graph_of, max_flow, instance_as}
-use Rattle.dn_instance.specs.TextFaults.{is_in_range, ids_in, is_companion, is_id, other_letter}
+use Rattle.dn_instance.specs.TextFaults.{is_in_range, ids_in, other_letter}
+use Rattle.dn_instance.specs.State.ItemFaults.{is_id}
+use Rattle.dn_line.specs.LineTable.{is_companion}
 use Rattle.dn_instance.specs.Texts.{items_of, IsClean, Reads}
 use Rattle.std.specs.Ordering.{int_cmp}
 use Rattle.std.proofs.lemmas.Cmp.{int_cmp_total}

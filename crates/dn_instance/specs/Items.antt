@@ -85,9 +85,8 @@ supplies_of items = by_key (filter_map supply_in items)
 -- both letters are `s`, or both are `t`
 abbrev pub same_letter : Letter → Letter → Bool
 same_letter S S = true
-same_letter S T = false
-same_letter T S = false
 same_letter T T = true
+same_letter _ _ = false
 
 -- the node that a `max` node line with this letter names
 abbrev pub terminal_in : Letter → Line → Option ℤ

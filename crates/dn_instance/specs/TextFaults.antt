@@ -3,6 +3,7 @@
 -- this project's profile.
 use Rattle.std.specs.Prelude.{ℕ, ◌-◌, ◌^◌, ℤ, pos, ◌+ℤ◌, List, [], ◌∷◌, ◌++◌, Bool, true, false, ◌&&◌, ◌||◌, not, cond, nat_le, is_none, is_some, Option, Some, None, Result, Ok, Err, int_lt}
 use Rattle.std.specs.List.{list_any, list_all}
+use Rattle.std.specs.Option.{option_map_or}
 use Rattle.std.specs.Ordering.{int_eq}
 use Rattle.dn_line.specs.declared.kind.Kind.{Kind}
 use Rattle.dn_line.specs.declared.kind.Kind.TheVariants as Kinds
@@ -16,6 +17,7 @@ use Rattle.dn_line.specs.declared.word.Word.{Word}
 use Rattle.dn_line.specs.declared.code.Code.{Code}
 use Rattle.dn_line.specs.declared.code.Code.TheVariants.{LateNode, TooManyLines, NodeOutOfRange, RepeatedNode, SameTerminal, LowAboveCap, SumTooLarge, NoProblem, MissingTerminal, TooFewLines, TooLong}
 use Rattle.dn_line.specs.Words.{first, is_skip}
+use Rattle.dn_line.specs.LineTable.{is_companion}
 use Rattle.dn_line.specs.Faults.{Test, first_fault, head_tests, field_tests, fields}
 use Rattle.dn_line.specs.Reading.{words_read}
 use Rattle.dn_arc.specs.Kinds.{costs}
@@ -53,18 +55,9 @@ is_counted_letter (Some Key.Q) = true
 is_counted_letter (Some Key.V) = true
 is_counted_letter _ = false
 
--- an `n` line follows an `a` line
-abbrev pub is_late_node : List Line → List Word → Bool
-is_late_node before ws = is_node_letter (first ws) && list_any is_arc before
-
 -- there are at least as many counted lines as declared
 abbrev pub is_full : Option Problem → ℕ → Bool
-is_full None count = false
-is_full (Some p) count = not (int_lt (pos count) p.count)
-
--- a counted line follows at least as many counted lines as declared
-abbrev pub is_surplus : List Line → List Word → Bool
-is_surplus before ws = is_counted_letter (first ws) && is_full (problem_of before) (counted before)
+is_full o count = option_map_or (λ (p : Problem). not (int_lt (pos count) p.count)) o false
 
 -- the nodes that a line names
 abbrev pub ids_in : Line → List ℤ
@@ -78,18 +71,11 @@ ids_in (Item.Query first second) = first ∷ second ∷ []
 ids_in (Item.Point id x y) = id ∷ []
 ids_in _ = []
 
--- texts of this kind are companions: all but `min`, `max` and `sp`
-abbrev pub is_companion : Kind → Bool
-is_companion Kinds.Min = false
-is_companion Kinds.Max = false
-is_companion Kinds.Sp = false
-is_companion _ = true
-
 -- an ID is in range if it is from 1 to NODES, or in a companion if it is at least 1; without a problem line, no ID is
 -- in range
 abbrev pub is_in_range : Option Problem → ℤ → Bool
-is_in_range None id = false
-is_in_range (Some p) id = int_lt (pos 0) id && (is_companion p.kind || not (int_lt p.nodes id))
+is_in_range o id =
+    option_map_or (λ (p : Problem). int_lt (pos 0) id && (is_companion p.kind || not (int_lt p.nodes id))) o false
 
 -- an ID, SRC or DST of the line is not in range
 abbrev pub is_stray : List Line → Line → Bool
@@ -117,14 +103,10 @@ abbrev pub other_letter : Letter → Letter
 other_letter Letters.S = Letters.T
 other_letter Letters.T = Letters.S
 
--- a node is named, and it is this one
-abbrev pub is_id : ℤ → Option ℤ → Bool
-is_id id None = false
-is_id id (Some other) = int_eq other id
-
 -- a `max` node line names the node of the other letter, so the source and the sink would be one node
 abbrev pub is_same_terminal : List Line → Line → Bool
-is_same_terminal before (Item.Terminal id letter) = is_id id (terminal_of (other_letter letter) before)
+is_same_terminal before (Item.Terminal id letter) =
+    option_map_or (λ other. int_eq other id) (terminal_of (other_letter letter) before) false
 is_same_terminal before _ = false
 
 -- LOW of a `min` arc is above its CAP
@@ -140,24 +122,23 @@ is_sum_too_large before (Item.MaxArc src dst cap) =
     int_lt (pos (2 ^ 63 - 1)) (total_cap (bundle (src, dst) (arcs_of cap_arc_in before)) +ℤ cap)
 is_sum_too_large before _ = false
 
--- the line spells an item, and the test applies to this item
-abbrev pub on_item : (Line → Bool) → Option Line → Bool
-on_item test None = false
-on_item test (Some i) = test i
-
 -- the faults that an item has after the items before it, in the order of checking
 abbrev pub item_tests : List Line → Option Line → List Test
 item_tests before i =
-    (NodeOutOfRange, on_item (is_stray before) i)
-    ∷ (RepeatedNode, on_item (is_repeated before) i)
-    ∷ (SameTerminal, on_item (is_same_terminal before) i)
-    ∷ (LowAboveCap, on_item is_low_above_cap i)
-    ∷ (SumTooLarge, on_item (is_sum_too_large before) i)
+    (NodeOutOfRange, option_map_or (is_stray before) i false)
+    ∷ (RepeatedNode, option_map_or (is_repeated before) i false)
+    ∷ (SameTerminal, option_map_or (is_same_terminal before) i false)
+    ∷ (LowAboveCap, option_map_or is_low_above_cap i false)
+    ∷ (SumTooLarge, option_map_or (is_sum_too_large before) i false)
     ∷ []
 
--- the faults that a line has because of its letter and of the items before it, in the order of checking
+-- the faults that a line has because of its letter and of the items before it, in the order of checking: an `n` line
+-- follows an `a` line, or a counted line follows at least as many counted lines as declared
 abbrev pub order_tests : List Line → List Word → List Test
-order_tests before ws = (LateNode, is_late_node before ws) ∷ (TooManyLines, is_surplus before ws) ∷ []
+order_tests before ws =
+    (LateNode, is_node_letter (first ws) && list_any is_arc before)
+    ∷ (TooManyLines, is_counted_letter (first ws) && is_full (problem_of before) (counted before))
+    ∷ []
 
 -- the faults of a line after these items, except `TooLong`, in the order of checking
 abbrev pub line_tests : List Line → List Word → List Test

@@ -3,7 +3,7 @@ ghost use Rattle.std.specs.Prelude.{◌≡◌, [], OnErr, Err, false};
 ghost use Rattle.dn_line.specs.declared.line.Line.TheVariants.{Supply, Terminal};
 ghost use Rattle.dn_line.specs.declared.kind.Kind.{Kind};
 ghost use Rattle.dn_line.specs.declared.kind.Kind.TheVariants.{Min};
-ghost use Rattle.dn_instance.specs.TextFaults.{is_companion};
+ghost use Rattle.dn_line.specs.LineTable.{is_companion};
 ghost use Rattle.dn_instance.specs.State.Bodies.{Keeps, TakesRow};
 ghost use Rattle.dn_instance.specs.State.RowRuns.{supply_line};
 ghost use Rattle.dn_instance.specs.State.TextParts.{MarksHold, terminals_of};

@@ -19,9 +19,10 @@ use Rattle.dn_line.specs.declared.word.Keyword.TheVariants as Key
 use Rattle.dn_line.specs.declared.word.Word.{Word}
 use Rattle.dn_line.specs.Words.{is_skip, first, tail}
 use Rattle.dn_line.specs.LineTable.{fields_of, counts, after_name, kind_named}
-use Rattle.dn_line.specs.Faults.{first_fault, field_tests, is_p, problem_fields, filled_fields, known_fields}
-use Rattle.dn_line.specs.Reading.{num, letter_of, item, problem, unless, problem_named, item_of}
-use Rattle.dn_line.specs.State.LineReads.{head_of}
+use Rattle.dn_line.specs.Faults.{first_fault, field_tests, is_p, known_fields}
+use Rattle.dn_line.specs.State.Fields.{filled_fields, problem_fields}
+use Rattle.dn_line.specs.Reading.{num, letter_of, item, problem, unless, item_of}
+use Rattle.dn_line.specs.State.LineReads.{problem_named, head_of}
 use Rattle.dn_line.specs.State.RowItems.{RowRead, terminal_number, letter_named, problem_item, filled_row, item_of_row, row_at, fields_at, after_head, item_read, row_read}
 
 -- a number of 64 signed bits passes through a conversion unchanged

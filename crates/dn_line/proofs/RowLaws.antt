@@ -3,7 +3,8 @@ use Rattle.std.proofs.Common.{Option, ◌≡◌, ◌≤◌, ◌-◌, ◌<◌, �
 use Rattle.std.proofs.lemmas.Bool.{and_from, not-true}
 use Rattle.std.proofs.lemmas.List.{take_all}
 use Rattle.std.specs.List.{list_all}
-use Rattle.dn_line.specs.Faults.{first_fault, field_tests, filled_fields}
+use Rattle.dn_line.specs.Faults.{first_fault, field_tests}
+use Rattle.dn_line.specs.State.Fields.{filled_fields}
 use Rattle.dn_line.specs.LineTable.{fields_of}
 use Rattle.dn_line.specs.Reading.{item, unless}
 use Rattle.dn_line.specs.Words.{first, said, said_words}

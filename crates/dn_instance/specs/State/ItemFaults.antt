@@ -1,11 +1,18 @@
 -- What the result of taking an item says about its first fault.
-use Rattle.std.specs.Prelude.{◌≡◌, ◌-◌, ◌^◌, ℤ, pos, List, [], ◌∷◌, ◌++◌, Bool, ◌&&◌, not, int_lt, Option, Some, None, is_some, Result, Ok, Err}
+use Rattle.std.specs.Prelude.{◌≡◌, ◌-◌, ◌^◌, ℤ, pos, List, [], ◌∷◌, ◌++◌, Bool, false, ◌&&◌, not, int_lt, Option, Some, None, is_some, Result, Ok, Err}
 use Rattle.dn_line.specs.declared.code.Code.{Code}
 use Rattle.dn_line.specs.declared.code.Code.TheVariants.{NodeOutOfRange, RepeatedNode, SameTerminal, LowAboveCap, SumTooLarge}
 use Rattle.dn_line.specs.Faults.{first_fault}
 use Rattle.dn_arc.specs.Kinds.{ArcKind}
 use Rattle.dn_arc.specs.Pairs.{bundle}
-use Rattle.dn_instance.specs.TextFaults.{is_id}
+use Rattle.std.specs.List.{list_any}
+use Rattle.std.specs.Ordering.{int_eq}
+use Rattle.std.specs.Option.{option_map_or}
+use Rattle.dn_line.specs.Words.{first}
+use Rattle.dn_line.specs.declared.line.Line.{Line}
+use Rattle.dn_line.specs.declared.word.Word.{Word}
+use Rattle.dn_instance.specs.Items.{problem_of, counted}
+use Rattle.dn_instance.specs.TextFaults.{is_arc, is_full, is_counted_letter, is_node_letter}
 use Rattle.dn_instance.specs.declared.refusal.ItemFault.{ItemFault}
 use Rattle.dn_instance.specs.declared.refusal.ItemFault.TheVariants.{Text, Memory}
 
@@ -14,6 +21,18 @@ abbrev pub AnswersFault : Result (Unit {0}) ItemFault → Option Code → Type 0
 AnswersFault (Ok x) fault = fault ≡ None
 AnswersFault (Err (Text code)) fault = fault ≡ Some code
 AnswersFault (Err Memory) fault = fault ≡ None
+
+-- an `n` line follows an `a` line
+abbrev pub is_late_node : List Line → List Word → Bool
+is_late_node before ws = is_node_letter (first ws) && list_any is_arc before
+
+-- a counted line follows at least as many counted lines as declared
+abbrev pub is_surplus : List Line → List Word → Bool
+is_surplus before ws = is_counted_letter (first ws) && is_full (problem_of before) (counted before)
+
+-- a node is named, and it is this one
+abbrev pub is_id : ℤ → Option ℤ → Bool
+is_id id o = option_map_or (λ other. int_eq other id) o false
 
 -- a graph with this many nodes has the node
 abbrev pub in_graph : ℤ → ℤ → Bool

@@ -14,7 +14,8 @@ use Rattle.dn_bundle.specs.State.Listings.{least_arcs, total_arcs, curve_arcs}
 use Rattle.dn_bundle.specs.declared.least.Least.{Least}
 use Rattle.dn_bundle.specs.declared.total.Total.{Total}
 use Rattle.dn_instance.specs.Items.{length_arc_in, cap_arc_in, cost_arc_in, point_in, query_in, source_in, supply_in, terminal_of}
-use Rattle.dn_instance.specs.TextFaults.{has_point, has_supply, is_companion}
+use Rattle.dn_instance.specs.TextFaults.{has_point, has_supply}
+use Rattle.dn_line.specs.LineTable.{is_companion}
 use Rattle.dn_instance.specs.EntryCount.{entries_as}
 use Rattle.dn_instance.specs.State.Bodies.{ListHolds, MapHolds, TableHolds}
 use Rattle.dn_instance.specs.declared.body.Body.{Body}

@@ -1,7 +1,8 @@
 -- The two steps of reading a line: its head, and its fields.
 use Rattle.std.specs.Prelude.{ℕ, List, cond, Option, Some, None, Result, Ok, Err}
 use Rattle.dn_line.specs.Words.{said_words, is_skip, first}
-use Rattle.dn_line.specs.LineTable.{kind_named}
+use Rattle.std.specs.Option.{option_map_or}
+use Rattle.dn_line.specs.LineTable.{after_name, kind_named}
 use Rattle.dn_line.specs.Faults.{first_fault, head_tests, field_tests, fields}
 use Rattle.dn_line.specs.declared.kind.Kind.{Kind}
 use Rattle.dn_line.specs.declared.line.Head.{Head}
@@ -12,7 +13,7 @@ use Rattle.dn_line.specs.declared.word.Keyword.{Keyword}
 use Rattle.dn_line.specs.declared.word.Keyword.TheVariants as Key
 use Rattle.dn_line.specs.declared.word.Word.{Word}
 use Rattle.dn_line.specs.declared.code.Code.{Code}
-use Rattle.dn_line.specs.Reading.{spelled, unless, words_read}
+use Rattle.dn_line.specs.Reading.{problem, spelled, unless, words_read}
 
 -- the head of a problem line that names this kind
 abbrev pub problem_head : Option Kind → Head
@@ -28,6 +29,10 @@ head_of (Some Key.S) k = Heads.Source
 head_of (Some Key.Q) k = Heads.Query
 head_of (Some Key.V) k = Heads.Point
 head_of _ k = Heads.Skip
+
+-- the problem that a line declares, given the kind that it names and the words after `p`
+abbrev pub problem_named : Option Kind → List Word → Line
+problem_named o ws = option_map_or (λ k. problem k (after_name k ws)) o Items.Skip
 
 -- what the checks of a line's head return
 abbrev pub head_read : Option Kind → List Word → Result Head Code

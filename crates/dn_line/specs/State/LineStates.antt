@@ -9,6 +9,10 @@ use Rattle.dn_line.specs.declared.words.Words.{Words}
 use Rattle.dn_line.specs.declared.line_state.LineState.{LineState}
 use Rattle.dn_line.specs.declared.line_reader.LineReader.{LineReader}
 
+-- a list of the piece alone, or the empty list if the piece is empty
+abbrev pub if_any : List ℕ → List (List ℕ)
+if_any piece = filter has_bytes (piece ∷ [])
+
 -- the state keeps the first seven of these words; no line has more than six
 pub record KeepsWords (s : Words) (ws : List Word) : Type 0 where
   pub count_is : s.count ≡ min (length ws) 7

@@ -3,7 +3,8 @@ use Rattle.std.specs.Prelude.{◌≡◌, ℤ, pos, List, cond, slice_get, Option
 use Rattle.std.specs.Ordering.{int_eq}
 use Rattle.dn_line.specs.Words.{tail}
 use Rattle.dn_line.specs.LineTable.{fields_of, counts, after_name}
-use Rattle.dn_line.specs.Faults.{first_fault, field_tests, filled_fields}
+use Rattle.dn_line.specs.Faults.{first_fault, field_tests}
+use Rattle.dn_line.specs.State.Fields.{filled_fields}
 use Rattle.dn_line.specs.Reading.{num, unless}
 use Rattle.dn_line.specs.State.LineReads.{head_read, fields_read}
 use Rattle.dn_line.specs.declared.code.Code.{Code}
