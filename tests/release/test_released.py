@@ -7,6 +7,7 @@ prints the version of a kit stands for one."""
 
 import contextlib
 import os
+import re
 import shutil
 import signal
 import subprocess
@@ -17,7 +18,7 @@ from collections.abc import Iterator
 import kit
 import pytest
 from known import ROADS, ROADS_CANON
-from needs import need, pass_over
+from needs import leave_out, need, pass_over
 from shared import LIMIT, OF_GIT, ROOT, Answer, bytes_of, make, run, said, text_of, write
 
 pytestmark = pytest.mark.slow
@@ -275,6 +276,20 @@ def test_without_python(folder: str) -> None:
         os.symlink(shutil.which(it) or "", f"bin/{it}")
     found = run([f"{ROOT}/check"], env={"PATH": f"{folder}/bin"})
     assert found == said("", "check: it needs Python 3.10 or later, and there is no python3 on the path\n", 127)
+
+
+def test_read_only(folder: str, clone: Clone) -> None:
+    """In a clone that cannot be written to, ./check and make say so at once, and what only reads runs."""
+    shutil.copy(f"{ROOT}/check", clone.folder)
+    shutil.rmtree(f"{clone.folder}/build")
+    mounts = f'mount --bind -o ro "{clone.folder}" "{clone.folder}" && cd "{clone.folder}" && "$@"'
+    if run(before := ["unshare", "--map-root-user", "--mount", "sh", "-c", mounts, "sh"]).status:
+        leave_out("user namespaces")
+    assert run([*before, "./check"]) == said("", "check: it writes into build/, and cannot\n", 1)
+    found = run([*before, "make", "program"])
+    assert re.fullmatch(rb"Makefile:\d+: \*\*\* it writes into build/, and cannot\.  Stop\.\n", found.err), found
+    assert run([*before, "make", "help"]).status == 0
+    assert run([*before, "bin/dnorm"], ROADS) == said(ROADS_CANON)
 
 
 CALLED = ["tools/lint", "tools/definitions", "bench/figures", "bin/rt", "tools/released", "packaging/third-party"]
