@@ -7,7 +7,7 @@ export type Kind = 'min' | 'max' | 'sp' | 'ss' | 'p2p' | 'co' | 'none';
 export type Form = 1 | 2;
 /** A stream of bytes, as a ReadableStream is. */
 export interface Streaming {
-  getReader(): { read(): Promise<{ done: boolean; value?: Uint8Array }>; cancel(): Promise<void> };
+  getReader(): { read(): Promise<{ done: boolean; value?: Uint8Array | undefined }>; cancel(): Promise<void> };
 }
 /** A text: its bytes, whatever yields pieces of them, a Blob, a File or a Response; where there are files, a path. */
 export type Source =
@@ -76,7 +76,7 @@ export class Instance {
   arcCount(form?: Form): bigint | null;
   /** [tail, head, length], [tail, head, capacity], or [tail, head, low, capacity, cost], in the order of the canonical
    *  text. Those of the first `pairs` pairs are passed over. */
-  arcs(form?: Form, pairs?: bigint): Generator<bigint[]>;
+  arcs(form?: Form, pairs?: bigint): Generator<[tail: bigint, head: bigint, ...values: bigint[]]>;
   /** The canonical arcs as columns, in the same order: of `sp` also `length`, of `max` `capacity`, and of `min` `low`,
    *  `capacity` and `cost`. */
   columns(form?: Form): { tail: BigInt64Array; head: BigInt64Array; [value: string]: BigInt64Array };
@@ -117,5 +117,5 @@ export function misfitLine(misfit: { number: 35 | 36; node: bigint | null }, fil
 export function show(instance: Instance): Generator<string>;
 /** Makes a library of a module. */
 export function made(module: Module): Promise<Library>;
-/** As `made`, or of dnorm.wasm.gz beside dnorm.mjs. */
+/** As `made`, or of dnorm.wasm.gz beside dnorm.mjs; beside the page, if the script that has this is no module. */
 export function load(module?: Module): Promise<Library>;

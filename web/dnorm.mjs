@@ -464,11 +464,12 @@ const beside = (name) => import(/* webpackIgnore: true */ /* @vite-ignore */ new
 const isFile = /^file:/.test(import.meta.url);
 if (isFile) opened = async (path) => (await beside('node.mjs')).opened(path);
 
-/** Makes a library of a module, as `made` does, or else of dnorm.wasm.gz beside this file. */
+/** Makes a library of a module, as `made` does, or else of dnorm.wasm.gz beside this file. A script that is no module
+ *  has it beside the page. */
 export async function load(module) {
   if (module) return made(module);
   if (isFile) return (await beside('node.mjs')).load();
-  const place = new URL('dnorm.wasm.gz', import.meta.url);
+  const place = new URL('dnorm.wasm.gz', import.meta.url ?? globalThis.location?.href);
   const answer = await fetch(place);
   if (!answer.ok) throw new TypeError(`${place}: the server answered ${answer.status}, and no module`);
   return made(await answer.arrayBuffer());

@@ -1,7 +1,7 @@
 // The package as an app has it that installs it: by its name, by `import` and by `require`, without and with files; and
 // importing it does nothing. The folder above has node_modules/dnorm, of which the argument is a text.
 import assert from 'node:assert/strict';
-import { readFileSync } from 'node:fs';
+import { readFileSync, writeFileSync } from 'node:fs';
 import { createRequire } from 'node:module';
 import { gunzipSync } from 'node:zlib';
 
@@ -45,4 +45,13 @@ globalThis.fetch = answer(200);
 const there = await served.load();
 assert.equal((await there.check(readFileSync(path))).kind, 'sp');
 await assert.rejects(there.read('p sp 1 0\n'), /no files here/);
+
+// A bundle that is no module knows no URL: the module is beside the page, or in Node beside the file.
+globalThis.location = { href: 'https://a.example/page.html' };
+const script = await import(`data:text/javascript,${encodeURIComponent(text.replaceAll('import.meta.url', 'undefined'))}`);
+assert.equal((await (await script.load()).check(readFileSync(path))).kind, 'sp');
+const file = require.resolve('dnorm/dnorm.wasm.gz').replace('dnorm.wasm.gz', 'bundle.mjs');
+const name = `const __filename = ${JSON.stringify(file)};\n`;
+writeFileSync(file, name + readFileSync(file.replace('bundle', 'node'), 'utf8').replaceAll('import.meta.url', 'undefined'));
+assert.equal((await (await (await import(file)).load()).check(path)).kind, 'sp');
 process.stdout.write('done\n');
