@@ -8,34 +8,25 @@
 
 const look = (() => {
   // Pictures have the width of their place, within these bounds.
-  const LEAST = 240;
-  const MOST = 720;
-  const HEIGHT = 320;
+  const [LEAST, MOST, HEIGHT] = [240, 720, 320];
   const EDGES = { left: 84, right: 24, top: 34, bottom: 44 };
   // How many corners of a curve may get dots, and how many a row of the table.
-  const DOTS = 60;
-  const ROWS = 200;
+  const [DOTS, ROWS] = [60, 200];
   const COLOURS = ['left', 'right'];
   const SIDES = { same: ['soft', 1.2], left: ['left', 2.5], right: ['right', 2.5], differs: ['bad', 2.5] };
 
-  // Makes an element of text alone, so that no name of a file is read as HTML.
-  function make(tag, words, ...inside) {
-    const it = document.createElement(tag);
+  // Makes elements of text alone, so that no name of a file is read as HTML.
+  const maker = (space) => (tag, words, ...inside) => {
+    const it = document.createElementNS(space, tag);
     for (const [key, value] of Object.entries(words)) {
       if (key.startsWith('on')) it[key] = value;
       else it.setAttribute(key, value);
     }
     it.append(...inside.filter((part) => part !== null));
     return it;
-  }
-
-  function draw(tag, words, ...inside) {
-    const it = document.createElementNS('http://www.w3.org/2000/svg', tag);
-    for (const [key, value] of Object.entries(words)) it.setAttribute(key, value);
-    it.append(...inside);
-    return it;
-  }
-
+  };
+  const make = maker(document.documentElement.namespaceURI);
+  const draw = maker('http://www.w3.org/2000/svg');
   const picture = (width, height, said, ...inside) => draw(
     'svg', { viewBox: `0 0 ${width} ${height}`, width, height, role: 'img', 'aria-label': said }, ...inside);
 
@@ -86,35 +77,37 @@ const look = (() => {
       .map((it) => [it, costAt(right, it) - costAt(left, it)]);
   }
 
-  // The scale of numbers over pixels, and some numbers on it with labels that differ: where they are too long for that,
-  // what they are above the first one, which `above` tells.
-  function scale(numbers, from, to, count) {
+  // The axis of a picture for numbers, from one place to another, with some of them as ticks. Their labels differ, and
+  // where they are too long for that, they tell what the numbers are above the first one.
+  function axis(name, numbers, [from, to], count) {
     const [low, high] = [least(numbers), greatest(numbers)];
     const share = (it) => (low === high ? 0.5 : Number(((it - low) * 1000000n) / (high - low)) / 1e6);
     const steps = Array.from({ length: count + 1 }, (_, i) => low + ((high - low) * BigInt(i)) / BigInt(count));
     const ticks = [...new Set(steps)];
     const isClear = new Set(ticks.map(short)).size === ticks.length;
     const label = (it) => (isClear ? short(it) : `+${short(it - low)}`);
-    const above = isClear ? '' : `, above ${grouped(low)}`;
-    return { at: (it) => from + share(it) * (to - from), ticks, label, above };
+    const title = isClear ? name : `${name}, above ${grouped(low)}`;
+    return { title, at: (it) => from + share(it) * (to - from), ticks: ticks.map((it) => [it, label(it)]) };
   }
 
-  function grid(x, y, width) {
+  const across = (width) => [EDGES.left, width - EDGES.right];
+  const upwards = [HEIGHT - EDGES.bottom, EDGES.top];
+
+  // A picture over two axes, with lines and labels at their ticks.
+  function plot(width, said, x, y, ...inside) {
     const { left, right, top, bottom } = EDGES;
     const line = (words) => draw('line', { ...words, stroke: 'var(--line)' });
     const end = { 'text-anchor': 'end' };
-    return [
-      ...x.ticks.flatMap((it) => [
-        line({ x1: x.at(it), x2: x.at(it), y1: top, y2: HEIGHT - bottom }),
-        draw('text', { x: x.at(it), y: HEIGHT - bottom + 16, 'text-anchor': 'middle' }, x.label(it)),
-      ]),
-      ...y.ticks.flatMap((it) => [
-        line({ x1: left, x2: width - right, y1: y.at(it), y2: y.at(it) }),
-        draw('text', { x: left - 8, y: y.at(it) + 4, ...end }, y.label(it)),
-      ]),
-      draw('text', { x: width - 4, y: HEIGHT - 8, ...end }, `amount${x.above}`),
-      draw('text', { x: 4, y: 14 }, `cost${y.above}`),
-    ];
+    const lines = [...x.ticks.flatMap(([it, label]) => [
+      line({ x1: x.at(it), x2: x.at(it), y1: top, y2: HEIGHT - bottom }),
+      draw('text', { x: x.at(it), y: HEIGHT - bottom + 16, 'text-anchor': 'middle' }, label),
+    ]), ...y.ticks.flatMap(([it, label]) => [
+      line({ x1: left, x2: width - right, y1: y.at(it), y2: y.at(it) }),
+      draw('text', { x: left - 8, y: y.at(it) + 4, ...end }, label),
+    ])];
+    const titles = [[width - 4, HEIGHT - 8, x.title, end], [4, 14, y.title, {}]];
+    return picture(width, HEIGHT, said, ...lines, ...titles.map(([at, to, it, style]) =>
+      draw('text', { x: at, y: to, ...style }, it)), ...inside);
   }
 
   // A curve. Where it is cut, it goes on by dots.
@@ -146,27 +139,27 @@ const look = (() => {
     const keys = names.map((it, i) => key(colours[i], i === 1, it));
     const caption = make('figcaption', { class: 'row' }, make('b', {}, title), ...keys);
     return figure((width) => {
-      const count = width < 480 ? 2 : 4;
-      const x = scale(all, EDGES.left, width - EDGES.right, count);
-      const heights = curves.flatMap((curve) => curve.corners.map(([, it]) => it));
-      const y = scale(heights, HEIGHT - EDGES.bottom, EDGES.top, 4);
+      const x = axis('amount', all, across(width), width < 480 ? 2 : 4);
+      const y = axis('cost', curves.flatMap((curve) => curve.corners.map(([, it]) => it)), upwards, 4);
       const told = `${title} of the arcs from ${at} to ${to}; the first difference is at amount ${amount}: ${said}.`;
       const mark = { x1: x.at(amount), x2: x.at(amount), y1: EDGES.top, y2: HEIGHT - EDGES.bottom };
       const style = { stroke: 'var(--bad)', 'stroke-dasharray': '2 4', 'stroke-width': 2 };
-      return [caption, picture(width, HEIGHT, told, ...grid(x, y, width), draw('line', { ...mark, ...style }),
+      return [caption, plot(width, told, x, y, draw('line', { ...mark, ...style }),
         ...curves.flatMap((it, i) => line(it, i, colours[i], x, y, amount)))];
     });
   }
 
-  const row = (tag, cells) => make('tr', {}, ...cells.map((it) => make(tag, tag === 'th' ? { scope: 'col' } : {}, it)));
-  const scroll = (table) => make('div', { class: 'scroll', tabindex: 0, role: 'group', 'aria-label': 'Table' }, table);
+  // A table of rows of cells, which are lists of texts and elements, in a place that scrolls and is folded.
+  function table(title, heads, rows) {
+    const row = (tag, words, cells) => make('tr', {}, ...cells.map((it) => make(tag, words, ...[it].flat())));
+    const all = make('table', {}, row('th', { scope: 'col' }, heads), ...rows.map((it) => row('td', {}, it)));
+    const scroll = make('div', { class: 'scroll', tabindex: 0, role: 'group', 'aria-label': 'Table' }, all);
+    return make('details', {}, make('summary', {}, title), scroll);
+  }
 
   function corners(curves, names) {
-    const rows = curves.flatMap((curve, i) =>
-      curve.corners.slice(0, ROWS).map(([amount, cost]) => row('td', [names[i], grouped(amount), grouped(cost)])));
-    const head = row('th', ['File', 'Amount', 'Cost']);
-    const table = scroll(make('table', {}, head, ...rows));
-    return make('details', {}, make('summary', {}, 'The corners of both curves'), table);
+    const rows = curves.flatMap((curve, i) => curve.corners.slice(0, ROWS).map((it) => [names[i], ...it.map(grouped)]));
+    return table('The corners of both curves', ['File', 'Amount', 'Cost'], rows);
   }
 
   /** The pictures of a difference between two `min` problems of these names, and a table. The second picture is there
@@ -179,8 +172,8 @@ const look = (() => {
     const more = rise(curves.map((it) => it.corners), difference);
     const isFlat = more.every(([, it]) => it === more[0][1]);
     const title = 'Difference of the least costs';
-    const second = isFlat
-      ? [] : [curvesOf(title, [{ corners: more }], ['bad'], [`${names[1]} minus ${names[0]}`], all, first)];
+    const minus = [`${names[1]} minus ${names[0]}`];
+    const second = isFlat ? [] : [curvesOf(title, [{ corners: more }], ['bad'], minus, all, first)];
     return [curvesOf('Least costs by amount', curves, COLOURS, names, all, first), ...second, corners(curves, names)];
   }
 
@@ -241,12 +234,11 @@ const look = (() => {
   }
 
   /** A table of pairs that differ: [tail, head, arcs, arcs], where arcs are words. */
-  function pairs(rows, names) {
-    const cell = (arcs) => (arcs.length ? arcs.flatMap((it, i) => (i ? [make('br', {}), it] : [it])) : ['none']);
-    const body = rows.map(([tail, head, left, right]) =>
-      make('tr', {}, ...[[`${tail} to ${head}`], cell(left), cell(right)].map((it) => make('td', {}, ...it))));
-    return scroll(make('table', {}, row('th', ['Pair', ...names]), ...body));
+  function pairs(title, rows, names) {
+    const cell = (arcs) => (arcs.length ? arcs.flatMap((it, i) => (i ? [make('br', {}), it] : [it])) : 'none');
+    return table(title, ['Pair', ...names],
+      rows.map(([tail, head, ...sides]) => [`${tail} to ${head}`, ...sides.map(cell)]));
   }
 
-  return { around, costAt, costs, draw, grouped, make, pairs, picture, figure };
+  return { across, around, costAt, costs, draw, figure, grouped, make, pairs, plot, upwards };
 })();

@@ -2,6 +2,7 @@
 // The page: it takes one file or two, hands their pieces to a worker, and shows what that says of them.
 
 const { around, costs, grouped, make, pairs } = look;
+const element = (id) => document.getElementById(id);
 const packed = bytesOf(element('module').textContent);
 const EXAMPLES = [
   [['roads.gr', 'c three towns\np sp 3 5\na 1 2 7\na 1 2 3\na 2 1 4\na 2 3 9\na 3 1 -5\n']],
@@ -31,21 +32,17 @@ let job = null;
 let open = null;
 let last = 0;
 
-function element(id) {
-  return document.getElementById(id);
-}
-
 // Returns bytes that base 85 spells, four by five characters. A comma stands for the sign that could end a script.
 function bytesOf(text) {
   const signs = '0123456789ABCDEFGHIJKLMNOPQRSTUVWXYZabcdefghijklmnopqrstuvwxyz!#$%&()*+-;,=>?@^_`{|}~';
   const digits = Object.fromEntries([...signs].map((it, i) => [it, i]));
-  const all = new Uint8Array(Math.floor((text.length * 4) / 5));
-  for (let from = 0, to = 0; from < text.length; from += 5, to += 4) {
+  const all = new DataView(new ArrayBuffer(4 * Math.ceil(text.length / 5)));
+  for (let at = 0; at < text.length; at += 5) {
     let value = 0;
-    for (let i = from; i < from + 5; i += 1) value = value * 85 + (digits[text[i]] ?? 84);
-    all.set([value / 2 ** 24, value / 2 ** 16, value / 256, value].map((it) => it & 255).slice(0, all.length - to), to);
+    for (let i = at; i < at + 5; i += 1) value = value * 85 + (digits[text[i]] ?? 84);
+    all.setUint32((at / 5) * 4, value);
   }
-  return all;
+  return new Uint8Array(all.buffer, 0, Math.floor((text.length * 4) / 5));
 }
 
 function size(bytes) {
@@ -55,10 +52,9 @@ function size(bytes) {
 const list = (rows) => make('dl', {}, ...rows.flatMap(([name, it]) => [make('dt', {}, name), make('dd', {}, it)]));
 const paragraph = (...inside) => make('p', {}, ...inside);
 const code = (text, label) => make('code', { class: 'line', tabindex: 0, role: 'group', 'aria-label': label }, text);
-
-function card(look, title, ...inside) {
-  return make('section', { class: look }, make('h2', { tabindex: -1 }, title), ...inside);
-}
+const card = (look, title, ...inside) =>
+  make('section', { class: look }, make('h2', { tabindex: -1 }, title), ...inside);
+const slotOf = (id) => slots.find((it) => it?.id === id);
 
 // The names of both files, which may be equal.
 function names() {
@@ -102,17 +98,21 @@ function tell(sentence) {
 }
 
 function ask(next, told, message) {
-  if (!worker) {
+  const isNew = !worker;
+  if (isNew) {
     const own = new Worker(job);
     worker = own;
-    // What a worker said that was ended meanwhile is of other files.
-    own.onmessage = ({ data }) => own === worker && SHOW[data.what](data);
+    own.onmessage = ({ data }) => {
+      const slot = slotOf(data.id);
+      // What a worker said that was ended meanwhile is of other files, and so is what it says of one that was replaced.
+      const isOfUse = slot || !data.id || data.what === 'more';
+      if (own === worker && isOfUse) SHOW[data.what](data, slot);
+    };
     own.onerror = ({ message: why = 'it did not start' }) =>
       own === worker && stop('The worker of this page failed', why);
-    message.module = packed;
   }
   become(next, told);
-  worker.postMessage(message);
+  worker.postMessage(isNew ? { ...message, module: packed } : message);
 }
 
 // Reads what is not read yet, and compares what is not compared; then the page is idle.
@@ -121,6 +121,8 @@ function proceed() {
     become('reading', 'Beginning');
     return;
   }
+  open?.pieces.return();
+  open = null;
   const slot = slots.find((it) => it && !it.card);
   if (slot) {
     ask('reading', `Reading ${slot.file.name}`, { what: 'read', id: slot.id, name: slot.file.name });
@@ -141,14 +143,20 @@ function announce() {
   heading.focus();
 }
 
-// Ends the work. What was read before is gone from memory, and what was not is gone from the page.
-function stop(title, why = null) {
+// Ends the work. What was read before is gone from memory.
+function end() {
   worker?.terminate();
   worker = null;
   open = null;
+  doing = 'idle';
+}
+
+// Ends the work for a cause. What was not read before is gone from the page.
+function stop(title, why = null) {
+  end();
   slots = slots.map((it) => (it?.card ? it : null));
   const again = slots.some((it) => it) ? make('button', { onclick: () => restart() }, 'Read again') : null;
-  notice = title ? card('bad', title, why && paragraph(why), again) : null;
+  notice = title ? card('fault', title, why && paragraph(why), again) : null;
   become('idle');
   if (title) announce();
 }
@@ -178,20 +186,18 @@ function anew() {
 function fill(chosen, at = null) {
   if (chosen.length === 0) return;
   if (chosen.length > 2) {
-    notice = card('bad', 'Drop one file, or two');
+    notice = card('fault', 'Drop one file, or two');
     show();
     announce();
     return;
   }
   const free = slots.indexOf(null);
   const places = chosen.length === 2 ? [0, 1] : [at ?? (free < 0 ? 1 : free)];
+  const before = places.map((place) => slots[place]).filter((it) => it);
+  before.forEach(clear);
+  if (doing === 'writing' || before.includes(open?.slot)) end();
+  for (const { id } of before) worker?.postMessage({ what: 'forget', id });
   places.forEach((place, i) => {
-    const before = slots[place];
-    if (before) {
-      clear(before);
-      if (open?.slot === before || doing === 'writing') stop();
-      else worker?.postMessage({ what: 'forget', id: before.id });
-    }
     last += 1;
     slots[place] = { id: last, file: chosen[i], card: null, isAccepted: false, taken: 0 };
   });
@@ -219,27 +225,23 @@ function unpacked(part, note = () => {}) {
   const cut = new TransformStream({
     transform(piece, to) {
       for (let at = 0; at < piece.length; at += SMALL) to.enqueue(piece.subarray(at, at + SMALL));
-      note(piece.length);
+      note(piece);
     },
   });
   return chunks(part.stream().pipeThrough(cut).pipeThrough(new DecompressionStream('gzip')));
 }
 
-// Yields where in a packed file, behind its beginning, another member may begin.
-async function* heads(file) {
-  let rest = new Uint8Array();
-  let place = 0;
-  for await (const piece of chunks(file.stream())) {
-    const all = new Uint8Array([...rest, ...piece.subarray(0, 3)]);
-    const found = [[all, place - rest.length, rest.length], [piece, place, piece.length - 3]];
-    for (const [bytes, base, most] of found) {
-      for (let at = bytes.indexOf(31); at >= 0 && at < most; at = bytes.indexOf(31, at + 1)) {
-        if (base + at && bytes[at + 1] === 139 && bytes[at + 2] === 8 && bytes[at + 3] < 32) yield base + at;
-      }
+// Returns the place behind the first member of a packed file: the browser unpacks no two at once.
+async function endOf(file) {
+  const most = 16 * SMALL;
+  for (let from = 0; from < file.size; from += most) {
+    const some = new Uint8Array(await file.slice(from, from + most + 3).arrayBuffer());
+    for (let at = some.indexOf(31); at >= 0 && at < most; at = some.indexOf(31, at + 1)) {
+      const isHead = from + at > 0 && some[at + 1] === 139 && some[at + 2] === 8 && some[at + 3] < 32;
+      if (isHead && await isWhole(file.slice(0, from + at))) return from + at;
     }
-    rest = piece.slice(Math.max(0, piece.length - 3));
-    place += piece.length;
   }
+  return file.size;
 }
 
 async function isWhole(part) {
@@ -251,45 +253,40 @@ async function isWhole(part) {
   }
 }
 
-// Yields the bytes of a file, unpacked if it begins as gzip does: a browser unpacks one member, and a file may have
-// several.
+// Yields the bytes of a file, unpacked if it begins as gzip does.
 async function* piecesOf(slot) {
-  const { file } = slot;
-  const note = (count) => { slot.taken += count; };
+  const note = (piece) => { slot.taken += piece.length; };
   slot.taken = 0;
-  const [one, two] = new Uint8Array(await file.slice(0, 2).arrayBuffer());
-  if (one !== 31 || two !== 139) {
-    for await (const piece of chunks(file.stream())) {
-      note(piece.length);
-      yield piece;
+  const [one, two] = new Uint8Array(await slot.file.slice(0, 2).arrayBuffer());
+  if (one === 31 && two === 139) {
+    for (let rest = slot.file; rest.size > 0;) {
+      const end = await endOf(rest);
+      yield* unpacked(rest.slice(0, end), note);
+      rest = rest.slice(end);
     }
     return;
   }
-  let from = 0;
-  for await (const at of heads(file)) {
-    const part = file.slice(from, at);
-    if (!(await isWhole(part))) continue;
-    yield* unpacked(part, note);
-    from = at;
+  for await (const piece of chunks(slot.file.stream())) {
+    note(piece);
+    yield piece;
   }
-  yield* unpacked(file.slice(from), note);
 }
 
 // Hands the next piece of a file to the worker that has asked for it.
-async function hand(to, { id, anew: isFirst }) {
+async function hand({ anew: isFirst }, slot) {
+  const to = worker;
+  const answer = { what: 'piece', piece: null };
   try {
-    const slot = slots.find((it) => it?.id === id);
     if (isFirst) {
       open?.pieces.return();
       open = { slot, pieces: piecesOf(slot) };
     }
-    const { value = null } = await open.pieces.next();
-    if (to === worker) to.postMessage({ what: 'piece', piece: value });
+    answer.piece = (await open.pieces.next()).value ?? null;
   } catch (error) {
     const cause = 'a folder, a file that changed or vanished since it was chosen, or a damaged gzip file';
-    const why = `The browser could not read it: it is ${cause} (${error.message}).`;
-    if (to === worker) to.postMessage({ what: 'piece', why });
+    answer.why = `The browser could not read it: it is ${cause} (${error.message}).`;
   }
+  if (to === worker) to.postMessage(answer);
 }
 
 // Some bytes of a line, as characters up to U+00FF, with each one shown that is no plain letter.
@@ -349,23 +346,17 @@ function factsOf({ kind, nodes, lines, pairs: count, items }, bytes, arcs, forms
 const program = (line, command) => list([['The program prints', code(line, 'What the program prints')],
   ['Command', code(command, 'The command')]]);
 
-const slotOf = (id) => slots.find((it) => it?.id === id);
-
-// What the worker says. What it says of a file that was replaced meanwhile is of no use.
+// What the worker says.
 const SHOW = {
-  more: (data) => hand(worker, data),
+  more: hand,
 
-  progress({ id, bytes, facts: { kind, lines } }) {
-    const slot = slotOf(id);
-    if (!slot) return;
+  progress({ bytes, facts: { kind, lines } }, slot) {
     if (slot.file.size) element('bar').value = Math.min(1, slot.taken / slot.file.size);
     const declared = kind === 'none' ? '' : `: ${kind}, ${grouped(lines)} ${LISTED[kind]} declared`;
     element('done').textContent = `${size(bytes)}${declared}`;
   },
 
-  accepted({ id, facts, bytes, arcs, forms }) {
-    const slot = slotOf(id);
-    if (!slot) return;
+  accepted({ id, facts, bytes, arcs, forms }, slot) {
     const { name } = slot.file;
     const button = (form, label) => {
       const onclick = () => {
@@ -380,16 +371,14 @@ const SHOW = {
     const more = isMin ? [button(2, 'Canonical text, form 2')] : [];
     const buttons = make('div', { class: 'row' }, button(1, `Canonical text${isMin ? ', form 1' : ''}`), ...more);
     const rows = list(factsOf(facts, bytes, arcs, forms));
-    slot.card = card('good', `${name} is accepted`, rows, buttons, make('div', { class: 'canon' }));
+    slot.card = card('fine', `${name} is accepted`, rows, buttons, make('div', { class: 'canon' }));
     slot.isAccepted = true;
   },
 
-  refused({ id, line, error: { number, refusal, sentence, place, message }, cause }) {
-    const slot = slotOf(id);
-    if (!slot) return;
+  refused({ line, error: { number, refusal, sentence, place, message }, cause }, slot) {
     const { name } = slot.file;
     if (!number) {
-      slot.card = card('bad', `${name} could not be read`, paragraph(message));
+      slot.card = card('fault', `${name} could not be read`, paragraph(message));
       return;
     }
     const where = typeof place === 'bigint' ? ` at line ${grouped(place)}` : ' at its end';
@@ -399,19 +388,19 @@ const SHOW = {
     const told = list([...problem, ['The program prints', code(line, 'What the program prints')]]);
     const shown = typeof cause?.line === 'string' ? lineOf(cause) : null;
     const more = number === 30 ? paragraph(MEMORY) : null;
-    slot.card = card('bad', title, paragraph(`${sentence} (${number} ${refusal})`), shown, hints, more, told);
+    slot.card = card('fault', title, paragraph(`${sentence} (${number} ${refusal})`), shown, hints, more, told);
   },
 
   fitted({ misfit, line, command }) {
     const said = misfit ? `It names node ${grouped(misfit.node)}, which is not in the graph.` : 'It has all its nodes.';
     const title = misfit ? 'The companion does not fit' : 'The companion fits the graph';
-    both = card(`${misfit ? 'bad' : 'good'} wide`, title, paragraph(said), program(line, command));
+    both = card(`${misfit ? 'fault' : 'fine'} whole`, title, paragraph(said), program(line, command));
   },
 
   compared({ difference, line, command, curves, found }) {
     const told = program(line, command);
     if (!difference) {
-      both = card('good wide', 'Both files pose the same problem', paragraph(names().join(' and ')), told);
+      both = card('fine whole', 'Both files pose the same problem', paragraph(names().join(' and ')), told);
       return;
     }
     const [said, left, right] = words(difference);
@@ -420,17 +409,16 @@ const SHOW = {
     const isCut = curves?.some((it) => it.cuts.includes(true));
     const some = 'Of a curve, only 500 corners on each side of the difference are drawn. It goes on where dots end it.';
     const note = isCut ? paragraph(some) : null;
-    both = card('bad wide', 'The files differ', paragraph(said), values, told, note, ...pictures, ...pairsOf(found));
+    both = card('fault whole', 'The files differ', paragraph(said), values, told, note, ...pictures, ...pairsOf(found));
   },
 
-  canon({ id, form, text, sum }) {
-    const slot = slotOf(id);
+  canon({ form, text, sum }, slot) {
     const place = slot.card.querySelector('.canon');
     URL.revokeObjectURL(place.querySelector('a')?.href);
     const ending = `.canonical${form === 2 ? '-2' : ''}$1`;
     const name = slot.file.name.replace(/\.gz$/i, '').replace(/(\.\w+)?$/, ending);
     const to = { href: URL.createObjectURL(text), download: name, 'data-form': form };
-    const save = make('a', { class: 'button first', ...to }, `Save ${name}`);
+    const save = make('a', { class: 'button', ...to }, `Save ${name}`);
     place.replaceChildren(list([['Size', size(text.size)], ['SHA-256', make('code', {}, sum)]]), save);
     tell(`The canonical text of ${slot.file.name} is ready.`);
     save.focus();
@@ -454,8 +442,7 @@ function pairsOf(found) {
   const title = make('h3', {}, `${grouped(count)} ${count === 1 ? 'pair differs' : 'pairs differ'}`);
   if (!count) return [title, rows];
   const which = count > found.rows.length ? `The first ${found.rows.length} that differ` : 'All that differ';
-  const table = make('details', {}, make('summary', {}, which), pairs(found.rows, names()));
-  return [title, rows, table, ...around(found.around, names())];
+  return [title, rows, pairs(which, found.rows, names()), ...around(found.around, names())];
 }
 
 // All that is shown, as lines of text. A picture has a sentence.

@@ -2,12 +2,10 @@
 // Draws what the pages of `dnorm-files look` have besides their text: by look.js, the costs of a pair and the arcs
 // around it; the sizes of the files of a folder, and a table of them. Numbers are texts: they have up to 128 bits.
 
-const { around, costs, draw, figure, grouped, make, picture } = look;
+const { across, around, costs, draw, figure, grouped, make, plot, upwards } = look;
 const data = JSON.parse(document.getElementById('data').textContent);
 // How many files the table shows at once.
 const SHOWN = 300;
-const EDGES = { left: 60, right: 20, top: 36, bottom: 40 };
-const HEIGHT = 320;
 const names = data.sides ?? ['left', 'right'];
 
 function showCosts({ curves, cuts = [], cut, left, right, ...numbers }) {
@@ -21,60 +19,48 @@ function showCosts({ curves, cuts = [], cut, left, right, ...numbers }) {
 // The cells of a column, by file.
 const cells = (files, name, count) => (files[name] ? files[name].split(' ') : Array(count).fill(''));
 
-// The numbers on a logarithmic scale: powers of ten, or where these are few, also their doubles and fivefolds.
-function ticks(most, at) {
-  const powers = [...Array(Math.floor(most) + 1).keys()];
-  const steps = most < 3 ? [1, 2, 5] : [1];
-  const numbers = powers.flatMap((power) => steps.map((it) => it * 10 ** power)).filter((it) => it <= 10 ** most);
-  return numbers.map((it) => draw('text', at(Math.log10(it)), it < 1000 ? it : `10^${Math.log10(it)}`));
+// The axis of a picture for numbers, from one place to another, on a logarithmic scale. Its ticks are powers of ten, or
+// where these are few, also their doubles and fivefolds, as far as there is room for so many pixels between them.
+function logarithms(title, numbers, [from, to], room) {
+  const greatest = numbers.reduce((a, b) => Math.max(a, b), 10);
+  const at = (it) => from + ((to - from) * Math.log10(it)) / Math.log10(greatest);
+  const ticks = [];
+  for (let power = 1; power <= greatest; power *= 10) {
+    for (const it of (greatest < 1000 ? [1, 2, 5] : [1]).map((times) => times * power)) {
+      const isNear = ticks.length > 0 && Math.abs(at(it) - at(ticks.at(-1)[0])) < room;
+      if (it <= greatest && !isNear) ticks.push([it, it < 1000 ? it : `10^${Math.log10(it)}`]);
+    }
+  }
+  return { title, at, ticks, greatest };
 }
 
 // Files of one kind at one place of the picture are one circle.
-function showSizes(files, names) {
-  const [nodes, arcs, kind] = ['nodes', 'canonical', 'kind'].map((it) => cells(files, it, names.length));
-  const logs = (of) => of.map((it) => (Number(it) > 0 ? Math.log10(Number(it)) : null));
-  const [xs, ys] = [logs(nodes), logs(arcs)];
-  const drawn = names.map((_, i) => i).filter((i) => xs[i] !== null && ys[i] !== null);
-  const place = document.getElementById('sizes');
-  if (drawn.length === 0) {
-    place.append(make('p', {}, 'There is no graph with arcs.'));
-    return;
-  }
-  const most = (of) => drawn.reduce((found, i) => Math.max(found, of[i]), 1);
-  const [right, top] = [most(xs), most(ys)];
-  place.append(figure((width) => {
-    const x = (it) => EDGES.left + ((width - EDGES.left - EDGES.right) * it) / right;
-    const y = (it) => HEIGHT - EDGES.bottom - ((HEIGHT - EDGES.bottom - EDGES.top) * it) / top;
-    return [sizesOf(files, names, { nodes, arcs, kind, xs, ys, drawn, right, top, x, y, width })];
-  }));
-}
-
-function sizesOf(files, names, { nodes, arcs, kind, xs, ys, drawn, right, top, x, y, width }) {
+function sizesOf(files, names, drawn, [nodes, arcs, kind], width) {
+  const x = logarithms('nodes', drawn.map((i) => nodes[i]), across(width), 40);
+  const y = logarithms('arcs', drawn.map((i) => arcs[i]), upwards, 16);
+  const said = `${grouped(drawn.length)} graphs by their nodes, up to ${grouped(x.greatest)}, and their arcs, up to `
+    + `${grouped(y.greatest)}, on logarithmic scales.`;
   const bins = new Map();
   for (const i of drawn) {
-    const key = `${Math.round(x(xs[i]))} ${Math.round(y(ys[i]))} ${kind[i]}`;
+    const key = `${Math.round(x.at(nodes[i]))} ${Math.round(y.at(arcs[i]))} ${kind[i]}`;
     if (!bins.has(key)) bins.set(key, []);
     bins.get(key).push(i);
   }
-  const dots = [...bins].map(([key, found]) => {
+  return plot(width, said, x, y, ...[...bins].map(([key, found]) => {
     const [cx, cy, of] = key.split(' ');
     const [first] = found;
-    const said = `${found.length} ${files.kinds[of]}: ${names[first]}, ${nodes[first]} nodes, ${arcs[first]} arcs`;
-    const r = Math.min(14, 3 + Math.sqrt(found.length));
-    const look = { fill: `var(--${files.colours[of]})`, 'fill-opacity': 0.55 };
-    return draw('circle', { cx, cy, r, ...look }, draw('title', {}, said));
-  });
-  const end = { 'text-anchor': 'end' };
-  const axes = `M${EDGES.left} ${EDGES.top}V${HEIGHT - EDGES.bottom}H${width - EDGES.right}`;
-  return picture(width, HEIGHT,
-    `${grouped(drawn.length)} graphs by their nodes, up to ${grouped(Math.round(10 ** right))}, and their arcs, up to `
-      + `${grouped(Math.round(10 ** top))}, on logarithmic scales.`,
-    draw('path', { d: axes, fill: 'none', stroke: 'var(--line)' }),
-    ...ticks(right, (it) => ({ x: x(it), y: HEIGHT - EDGES.bottom + 18, 'text-anchor': 'middle' })),
-    ...ticks(top, (it) => ({ x: EDGES.left - 8, y: y(it) + 4, ...end })),
-    draw('text', { x: width - EDGES.right, y: HEIGHT - 6, ...end }, 'nodes'),
-    draw('text', { x: EDGES.left - 8, y: EDGES.top - 16, ...end }, 'arcs'),
-    ...dots);
+    const told = `${found.length} ${files.kinds[of]}: ${names[first]}, ${nodes[first]} nodes, ${arcs[first]} arcs`;
+    const style = { r: Math.min(14, 3 + Math.sqrt(found.length)), fill: `var(--${files.colours[of]})` };
+    return draw('circle', { cx, cy, ...style, 'fill-opacity': 0.55 }, draw('title', {}, told));
+  }));
+}
+
+function showSizes(files, names) {
+  const columns = ['nodes', 'canonical', 'kind'].map((it) => cells(files, it, names.length));
+  const drawn = names.map((_, i) => i).filter((i) => columns[0][i] > 0 && columns[1][i] > 0);
+  const none = make('p', {}, 'There is no graph with arcs.');
+  const shown = drawn.length ? figure((width) => [sizesOf(files, names, drawn, columns, width)]) : none;
+  document.getElementById('sizes').append(shown);
 }
 
 // The columns of the table: what the head says, a text for each file, and whether they are numbers.

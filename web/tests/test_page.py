@@ -138,7 +138,13 @@ def test_shows(page: Page, files: list[tuple[str, str]], wanted: list[str]) -> N
 
 
 def test_dropped(page: Page) -> None:
-    assert "Both files pose the same problem" in page.give([("a.gr", ROADS.decode()), ("b.gr", ROADS.decode())], DROP)
+    """Two files take the places of two others; and one that of a file that is being read, while the other waits."""
+    files = [("a.gr", ROADS.decode()), ("b.gr", ROADS.decode())]
+    for _ in range(2):
+        assert "Both files pose the same problem\na.gr and b.gr\n" in page.give(files, DROP)
+    for at, names in enumerate(["c.gr and b.gr", "a.gr and c.gr"]):
+        script = f"{GIVE}; fill([new File([arguments[0][0][1]], 'c.gr')], {at})"
+        assert f"Both files pose the same problem\n{names}\n" in page.give(files, script)
 
 
 def test_keys(page: Page) -> None:
