@@ -2,7 +2,6 @@
 // The page: it takes one file or two, hands their pieces to a worker, and shows what that says of them.
 
 const { around, costs, grouped, make, pairs } = look;
-const element = (id) => document.getElementById(id);
 const packed = bytesOf(element('module').textContent);
 const EXAMPLES = [
   [['roads.gr', 'c three towns\np sp 3 5\na 1 2 7\na 1 2 3\na 2 1 4\na 2 3 9\na 3 1 -5\n']],
@@ -31,6 +30,10 @@ let job = null;
 // The file that is being read, and its pieces.
 let open = null;
 let last = 0;
+
+function element(id) {
+  return document.getElementById(id);
+}
 
 // Returns bytes that base 85 spells, four by five characters. A comma stands for the sign that could end a script.
 function bytesOf(text) {
@@ -310,22 +313,14 @@ function lineOf({ line, mark }) {
 
 // What a difference says, in a sentence, and the values of both sides.
 function words({ what, kind, at, to, index, amount, left, right }) {
-  const values = (none) => [left, right].map((it) => (it === null ? none : grouped(it)));
-  const pair = `The arcs from ${at} to ${to} differ first`;
-  const said = {
-    kind: () => ['They are of two kinds.', left, right],
-    nodes: () => ['They differ in the number of nodes.', ...values()],
-    supply: () => [`They differ in the flow of node ${at}.`, ...values()],
-    source: () => ['They differ in the source.', ...values()],
-    sink: () => ['They differ in the sink.', ...values()],
-    length: () => ['They differ in the number of lines.', ...values()],
-    item: () => [`They differ in item ${index}.`],
-    point: () => [`They differ in the point of node ${at}.`],
-  };
-  if (what !== 'pair') return said[what]();
-  const number = { sp: 'least length', max: 'total capacity' }[kind];
-  if (number) return [`${pair}: in their ${number}.`, ...values('no arc')];
-  return [`${pair}, at amount ${grouped(amount)}. The least costs of this amount are:`, ...values('it is infeasible')];
+  const of = { nodes: 'the number of nodes', supply: `the flow of node ${at}`, source: 'the source', sink: 'the sink' };
+  Object.assign(of, { length: 'the number of lines', item: `item ${index}`, point: `the point of node ${at}` });
+  const costs_ = `, at amount ${grouped(amount)}. The least costs of this amount are:`;
+  const pair = { sp: ': in their least length.', max: ': in their total capacity.', min: costs_ }[kind];
+  const said = { kind: 'They are of two kinds.', pair: `The arcs from ${at} to ${to} differ first${pair}` };
+  const none = { sp: 'no arc', max: 'no arc', min: 'it is infeasible' }[kind];
+  const values = [left, right].map((it) => (it === null ? none : grouped(it)));
+  return [said[what] ?? `They differ in ${of[what]}.`, ...values];
 }
 
 function factsOf({ kind, nodes, lines, pairs: count, items }, bytes, arcs, forms) {
@@ -367,9 +362,8 @@ const SHOW = {
       };
       return make('button', { class: 'ask', onclick, 'aria-label': `${label}, of ${name}` }, label);
     };
-    const isMin = facts.kind === 'min';
-    const more = isMin ? [button(2, 'Canonical text, form 2')] : [];
-    const buttons = make('div', { class: 'row' }, button(1, `Canonical text${isMin ? ', form 1' : ''}`), ...more);
+    const labels = facts.kind === 'min' ? ['Canonical text, form 1', 'Canonical text, form 2'] : ['Canonical text'];
+    const buttons = make('div', { class: 'row' }, ...labels.map((it, i) => button(i + 1, it)));
     const rows = list(factsOf(facts, bytes, arcs, forms));
     slot.card = card('fine', `${name} is accepted`, rows, buttons, make('div', { class: 'canon' }));
     slot.isAccepted = true;
@@ -483,15 +477,13 @@ async function linkOf() {
   return `${location.href.split('#')[0]}#${words_}`;
 }
 
-function ofLink(text) {
-  return Uint8Array.from(atob(text.replaceAll('-', '+').replaceAll('_', '/')), (it) => it.charCodeAt(0));
-}
-
 function openLink() {
   if (!location.hash.includes('=')) return;
-  const files = [...new URLSearchParams(location.hash.slice(1))];
+  const plain = (text) => atob(text.replaceAll('-', '+').replaceAll('_', '/'));
+  const bytesIn = (text) => Uint8Array.from(plain(text), (it) => it.charCodeAt(0));
   try {
-    start(files.map(([name, text]) => new File([ofLink(text)], name)));
+    const files = [...new URLSearchParams(location.hash.slice(1))];
+    start(files.map(([name, text]) => new File([bytesIn(text)], name)));
   } catch {
     tell('The link is damaged: it has no texts.');
   }
@@ -543,11 +535,8 @@ show();
 window.onhashchange = openLink;
 openLink();
 (async () => {
-  let script = '';
-  const text = new TextDecoder();
-  for await (const it of unpacked(new Blob([bytesOf(element('worker').textContent)]))) {
-    script += text.decode(it, { stream: true });
-  }
-  job = URL.createObjectURL(new Blob([script], { type: 'text/javascript' }));
+  const script = new Blob([bytesOf(element('worker').textContent)]).stream();
+  const bytes = await new Response(script.pipeThrough(new DecompressionStream('gzip'))).arrayBuffer();
+  job = URL.createObjectURL(new Blob([bytes], { type: 'text/javascript' }));
   if (doing !== 'idle') proceed();
 })();

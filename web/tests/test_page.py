@@ -3,6 +3,7 @@ mouse and by keys; that it connects to nothing; and that its controls have names
 
 import gzip
 import hashlib
+import json
 import os
 import random
 import time
@@ -13,7 +14,9 @@ import pytest
 from browsers import Chromium, Firefox, browsing
 from known import COSTS, ROADS
 from needs import pass_over
-from shared import ROOT, bytes_of, run, write
+from shared import ROOT, Quick, bytes_of, run, write
+from test_web import KINDS
+from texts import lines_of, made, spelled, spoilt
 
 pytestmark = [pytest.mark.slow, pytest.mark.browser, pytest.mark.xdist_group("page")]
 PAGES = [f"{ROOT}/build/dnorm.html", f"{ROOT}/released/dnorm.html"]
@@ -196,6 +199,54 @@ def test_two_texts(page: Page, tested: str, folder: str) -> None:
         write("given", arcs[it][1])
         wanted = hashlib.sha256(run([tested, "canon", "given"]).out).hexdigest()
         page.until(f"return document.querySelectorAll('.canon')[{it}].textContent.includes('{wanted}')")
+
+
+# How many random pairs a seed has.
+PAIRS = 50
+# Asks for a canonical text; and the checksum of the text that was asked for.
+ASK = "[...document.querySelectorAll('#answers .ask')][arguments[0]]"
+SUM = f"return {ASK}.closest('section').querySelector('.canon code').textContent"
+
+
+def said_of(program: Quick, names: list[str]) -> list[str]:
+    """Returns what the page is to say of two files."""
+    checks = {it: program.run("check", it) for it in names}
+    kinds = {name: it.out.decode().split()[1] for name, it in checks.items() if not it.status}
+    told = []
+    if len(kinds) == 2:
+        graphs = [it for it in names if kinds[it] in ("min", "max", "sp")]
+        [other] = {*names} - {*graphs} if len(graphs) == 1 else [""]
+        fits = program.run("check", graphs[0], "--with", other) if other and kinds[graphs[0]] == "sp" else None
+        line = (fits.err or fits.out.splitlines()[1]) if fits else program.run("compare", *names).out
+        told.append(line.decode().strip())
+    told += [it.err.decode().strip() for it in checks.values() if it.status]
+    forms = [(name, form) for name in kinds for form in ("12" if kinds[name] == "min" else "1")]
+    return told + [hashlib.sha256(program.run("canon", f"--form={form}", it).out).hexdigest() for it, form in forms]
+
+
+@pytest.mark.parametrize("seed", range(2))
+def test_random_pairs(page: Page, often: Quick, folder: str, seed: int) -> None:
+    """What the page says of random files, correct and faulty, and their canonical texts, are the program's."""
+    chance = random.Random(seed)
+    page.browser.go(page.url)
+    for i in range(PAIRS):
+        kinds = [KINDS[i % 6], KINDS[i % 6] if i % 4 else chance.choice(KINDS)]
+        texts = [lines_of(chance, made(chance, it, i % 3 == 0)) for it in kinds]
+        # One of some pairs is the other with another number.
+        if i % 5 < 2 and kinds[0] == kinds[1]:
+            texts[1] = [[*it] for it in texts[0]]
+            texts[1][-1][-1] = str(chance.randrange(4))
+        given = [spelled(chance, spoilt(chance, it) if chance.random() < 0.15 else it) for it in texts]
+        for name, text in zip("ab", given):
+            write(name, text)
+        page.browser.choose(f"{folder}/a", f"{folder}/b")
+        begin = "The program prints: "
+        said = [it.removeprefix(begin) for it in page.answer().splitlines() if it.startswith(begin)]
+        for at in range(page.browser.js("return document.querySelectorAll('#answers .ask').length")):
+            page.browser.js(f"{ASK}.click()", at)
+            page.answer()
+            said.append(page.browser.js(SUM, at))
+        assert said == said_of(often, ["a", "b"]), given
 
 
 def test_many_costs(page: Page) -> None:
