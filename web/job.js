@@ -17,7 +17,7 @@ let waiting = null;
 // The instances by the numbers that the page gives its files.
 const held = new Map();
 
-const post = (what, more, moved = []) => postMessage({ what, ...more }, moved);
+const post = (what, more) => postMessage({ what, ...more });
 const told = ({ number = 0, refusal, sentence, place = null, message }) =>
   ({ number, refusal, sentence, place, message });
 

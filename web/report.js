@@ -79,14 +79,6 @@ function tableOf(files, names) {
   ];
 }
 
-// The keys by which a column is sorted: texts, or numbers that may have 64 bits.
-function keysOf({ column, isNumber }) {
-  if (!isNumber) return column;
-  const isShort = column.every((it) => it.length < 16);
-  if (isShort) return column.map((it) => (it === '' ? -1 : Number(it)));
-  return column.map((it) => (it === '' ? -1n : BigInt(it)));
-}
-
 function showFiles(files, names) {
   const columns = tableOf(files, names);
   const found = columns.filter((it) => !it.isNumber).map((it) => it.column);
@@ -94,7 +86,7 @@ function showFiles(files, names) {
   // What is not accepted comes first.
   const isFaulty = cells(files, 'kind', names.length).map((it) => ['refused', 'failed'].includes(files.kinds[it]));
   const order = names.map((_, i) => i).sort((i, j) => isFaulty[j] - isFaulty[i] || i - j);
-  const state = { by: null, down: false, shown: SHOWN, order };
+  const state = { by: null, down: false, shown: 0 };
   const label = 'Filter by name, kind, cause or remark';
   const filter = make('input', { type: 'search', id: 'filter', 'aria-label': label, placeholder: 'Filter' });
   const told = make('p', { role: 'status', id: 'told' });
@@ -105,10 +97,11 @@ function showFiles(files, names) {
     return make('th', { scope: 'col', class: isNumber ? 'number' : '' }, make('button', { onclick }, head));
   });
 
-  function render() {
+  function render(shown) {
+    state.shown = shown;
     const wanted = filter.value.toLowerCase();
-    const chosen = state.order.filter((i) => searched[i].includes(wanted));
-    const rows = chosen.slice(0, state.shown).map((i) => make('tr', {}, ...columns.map(({ column, isNumber }) =>
+    const chosen = order.filter((i) => searched[i].includes(wanted));
+    const rows = chosen.slice(0, shown).map((i) => make('tr', {}, ...columns.map(({ column, isNumber }) =>
       make('td', isNumber ? { class: 'number' } : {}, column[i]))));
     body.replaceChildren(...rows);
     const part = rows.length < chosen.length ? `, of which the first ${grouped(rows.length)} are shown` : '';
@@ -123,25 +116,20 @@ function showFiles(files, names) {
   function sort(at) {
     state.down = state.by === at && !state.down;
     state.by = at;
-    const keys = keysOf(columns[at]);
+    const { column, isNumber } = columns[at];
+    // Numbers have up to 64 bits.
+    const keys = isNumber ? column.map((it) => BigInt(it || -1)) : column;
     const rising = (i, j) => (keys[i] < keys[j] ? -1 : Number(keys[i] > keys[j]));
-    state.order.sort(state.down ? (i, j) => rising(j, i) || i - j : (i, j) => rising(i, j) || i - j);
-    state.shown = SHOWN;
-    render();
+    order.sort((i, j) => (state.down ? rising(j, i) : rising(i, j)) || i - j);
+    render(SHOWN);
   }
 
-  filter.oninput = () => {
-    state.shown = SHOWN;
-    render();
-  };
-  more.onclick = () => {
-    state.shown += SHOWN;
-    render();
-  };
+  filter.oninput = () => render(SHOWN);
+  more.onclick = () => render(state.shown + SHOWN);
   const table = make('table', {}, make('thead', {}, make('tr', {}, ...heads)), body);
   const row = make('div', { class: 'row' }, filter, told);
   document.getElementById('files').append(row, make('div', { class: 'wide' }, table), more);
-  render();
+  render(SHOWN);
 }
 
 if (data.cost) showCosts(data.cost);

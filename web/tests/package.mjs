@@ -48,10 +48,11 @@ await assert.rejects(there.read('p sp 1 0\n'), /no files here/);
 
 // A bundle that is no module knows no URL: the module is beside the page, or in Node beside the file.
 globalThis.location = { href: 'https://a.example/page.html' };
-const script = await import(`data:text/javascript,${encodeURIComponent(text.replaceAll('import.meta.url', 'undefined'))}`);
+const unnamed = (it) => it.replaceAll('import.meta.url', 'undefined');
+const script = await import(`data:text/javascript,${encodeURIComponent(unnamed(text))}`);
 assert.equal((await (await script.load()).check(readFileSync(path))).kind, 'sp');
 const file = require.resolve('dnorm/dnorm.wasm.gz').replace('dnorm.wasm.gz', 'bundle.mjs');
 const name = `const __filename = ${JSON.stringify(file)};\n`;
-writeFileSync(file, name + readFileSync(file.replace('bundle', 'node'), 'utf8').replaceAll('import.meta.url', 'undefined'));
+writeFileSync(file, name + unnamed(readFileSync(file.replace('bundle', 'node'), 'utf8')));
 assert.equal((await (await (await import(file)).load()).check(path)).kind, 'sp');
 process.stdout.write('done\n');
