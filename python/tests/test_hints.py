@@ -424,7 +424,7 @@ def test_text(text: bytes, word: "str | None", hints: list[str]) -> None:
 def test_every_hint() -> None:
     """Each hint is found by a text, or by a refusal of two files."""
     told = {hint for _, _, hints in TEXTS.values() for hint in hints}
-    told |= {*causes.cause_of(None, None, None, 36).hints}
+    told |= {*(causes.cause_of(None, None, None, 36)[1] or "").splitlines()}
     graph = b"p sp 2 0\n"
     with pytest.raises(dnorm.Refused) as found:
         dnorm.check(graph, b"p aux sp ss 2\ns 1\ns 7\n")

@@ -16,7 +16,6 @@ from itertools import starmap
 from typing import Any, cast
 
 from .answers import AnyDifference, Difference, Same
-from .causes import Cause
 from .columns import column
 from .errors import DnormError, Endless, Memory, NoLibrary, Refused
 from .files import Text
@@ -332,6 +331,4 @@ def error_of(status: Any, text: Text) -> DnormError:
 
 def refused(text: Text, line: int | None, number: int, node: int | None = None) -> Refused:
     """Returns a refusal of a text, with its cause if that can be found."""
-    found = text.cause(line, number, node) or Cause(None, None, [])
-    hint = "\n".join(found.hints) or None
-    return Refused(text.name, line, number, REFUSALS[number][0], node, found.text, hint, found.mark)
+    return Refused(text.name, line, number, REFUSALS[number][0], node, *(text.cause(line, number, node) or ()))

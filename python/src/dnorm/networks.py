@@ -77,9 +77,16 @@ def from_networkx(
         raise TypeError(f"from_networkx makes Sp, Max and Min, and not {made.__name__}")
     ends = {"source": source, "sink": sink}
     check_terminals(made, ends)
-    values: dict[str, Any] = {"nodes": count_of_nodes(graph)}
+    if not graph.is_directed():
+        raise ValueError("the graph is undirected: graph.to_directed() has an arc in each direction")
+    if {*graph} != {*range(1, len(graph) + 1)}:
+        raise ValueError(f"the {len(graph)} nodes are not the numbers 1 to {len(graph)}")
     edges = list(graph.edges(data=True))
-    values.update(tails=[tail for tail, _, _ in edges], heads=[head for _, head, _ in edges])
+    values: dict[str, Any] = {
+        "nodes": len(graph),
+        "tails": [it for it, *_ in edges],
+        "heads": [it for _, it, _ in edges],
+    }
     if made is Sp:
         return from_arrays(Sp, lengths=weights_of(edges, weight, 1), **values)
     capacities = of_edges(capacity, edges, attributes_of(edges, capacity))
@@ -96,16 +103,6 @@ def check_terminals(made: type[Graph], ends: dict[str, Optional[int]]) -> None:
     given = [name for name, it in ends.items() if it is not None]
     if given and made is not Max:
         raise TypeError(f"{made.__name__} takes no {' and no '.join(given)}")
-
-
-def count_of_nodes(graph: Any) -> int:
-    """Returns how many nodes a directed graph has, if these are the numbers from 1 on."""
-    if not graph.is_directed():
-        raise ValueError("the graph is undirected: graph.to_directed() has an arc in each direction")
-    count = len(graph)
-    if set(graph) != set(range(1, count + 1)):
-        raise ValueError(f"the {count} nodes are not the numbers 1 to {count}")
-    return count
 
 
 Edges = list[tuple[Any, Any, dict[str, Any]]]

@@ -126,7 +126,9 @@ def paired(left: Instance, right: Instance, limit: int | None, time: Limit) -> d
                 shared.append(PairDifference(key, one, other))
             counts["different"] += 1
             fields[differing_fields(left.kind, one, other)] += 1
-    turned = reversed_pairs(alone) if isinstance(left, Graph) else ()
+    # Those whose opposite with the same arcs only the right text has.
+    others = {it.key[::-1]: it.right for it in alone if not it.left and isinstance(left, Graph)}
+    turned = tuple(it.key for it in alone if it.left and others.get(it.key) == it.left)
     pairs = tuple((shared + alone)[:limit])
     return {**counts, "fields": tuple(fields.most_common()), "reversed": turned, "pairs": pairs}
 
@@ -181,12 +183,6 @@ def differing_fields(kind: str, left: Arcs, right: Arcs) -> str:
         return "arcs"
     fields = zip(VALUES[kind], zip(*left), zip(*right))
     return " ".join([name for name, one, other in fields if one != other])
-
-
-def reversed_pairs(differing: list[PairDifference]) -> tuple[Key, ...]:
-    """Returns the pairs that only the left text has, and whose opposite with the same arcs only the right one has."""
-    only_right = {it.key: it.right for it in differing if not it.left}
-    return tuple(it.key for it in differing if not it.right and only_right.get(it.key[::-1]) == it.left)
 
 
 @dataclass(frozen=True, repr=False)

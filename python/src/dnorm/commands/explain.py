@@ -4,13 +4,13 @@ from __future__ import annotations
 
 import contextlib
 import difflib
+import functools
 import os
 import re
 import signal
 import subprocess
 import sys
 from collections.abc import Iterable, Iterator, Sequence
-from typing import BinaryIO
 
 from ..causes import Opener, cause_of, quoted
 from ..console import for_terminal, is_open
@@ -128,36 +128,24 @@ def causes_of(told: str, copy: Copied | None = None) -> Iterator[str]:
         yield REFUSALS[number][1]
         if number == 31 and name != "-":
             try:
-                with open_file(name) as file:
-                    file.read(1)
+                next(pieces_of(name), b"")
             except OSError as error:
                 yield reason_of(error)
         return
     line = int(found["place"]) if refused and found["place"] != "end" else None
     node = int(found["node"]) if other and found["node"] else None
-    with contextlib.ExitStack() as stack:
-        text = copy.again if copy and name == "-" else opener_of(name, stack)
-        cause = cause_of(text, None if name == "-" else name, line, number, node)
-        yield from Refused(name, line, number, "", node, cause.text, "\n".join(cause.hints), cause.mark).causes
+    text: Opener | None = copy.again if copy and name == "-" else None
+    # Nothing else can be read twice.
+    if name != "-" and os.path.isfile(name) and os.access(name, os.R_OK):
+        text = functools.partial(pieces_of, name)
+    cause = cause_of(text, None if name == "-" else name, line, number, node)
+    yield from Refused(name, line, number, "", node, *cause).causes
 
 
-def open_file(name: str) -> BinaryIO:
-    return open(name, "rb", buffering=0, opener=lambda it, flags: os.open(it, flags | os.O_NONBLOCK))
-
-
-def opener_of(name: str, stack: contextlib.ExitStack) -> Opener | None:
-    """Returns how a regular file is read from its beginning, or None for anything else."""
-    if name == "-" or not os.path.isfile(name):
-        return None
-    with contextlib.suppress(OSError):
-        file = stack.enter_context(open_file(name))
-
-        def text() -> Iterator[bytes]:
-            file.seek(0)
-            return of_stream(file)
-
-        return text
-    return None
+def pieces_of(name: str) -> Iterator[bytes]:
+    """Yields what a file has, and does not wait for the writer of a FIFO."""
+    with open(name, "rb", buffering=0, opener=lambda it, flags: os.open(it, flags | os.O_NONBLOCK)) as file:
+        yield from of_stream(file)
 
 
 def wrong_words(words: Sequence[str]) -> Iterator[str]:

@@ -9,11 +9,11 @@ import signal
 import sys
 import traceback
 from collections.abc import Callable, Sequence
-from typing import IO, Any, NoReturn, Optional
+from typing import Any, NoReturn
 
 from .. import __version__
 from ..causes import quoted
-from ..console import SIGNALS, Console, Stopped, has_output, heed, number
+from ..console import SIGNALS, Console, Parser, Stopped, has_output, heed, number
 from ..errors import DnormError, Read, Refused, Write
 from ..files import failing
 from ..library import find_library
@@ -26,7 +26,7 @@ from ..records import Record
 from . import explain
 from .explain import unknown_command
 from .reports import causes_of, line_of
-from .tasks import FAILED, REFUSED, USAGE, Run
+from .tasks import FAILED, REFUSED, Run
 
 ABOUT = "Checks, lists and compares many files of DIMACS texts at the same time."
 STATUSES = """\
@@ -58,19 +58,6 @@ OWN = {
     "explain": "Runs the program, or reads what it has printed, and prints what shows the cause of a refusal.",
     "parts": "Writes the canonical text of a graph that does not fit into memory.",
 }
-
-
-class Parser(argparse.ArgumentParser):
-    """A parser with a status of its own for a command line that is refused. It fails where it cannot print its help."""
-
-    # What is said of a file whose name is taken for an option.
-    more = ""
-
-    def error(self, message: str) -> NoReturn:
-        self.exit(USAGE, f"{self.prog}: {message}{Parser.more} (--help tells more)\n")
-
-    def _print_message(self, message: str, file: Optional[IO[str]] = None) -> None:
-        (Console().complain if file is sys.stderr else Console().print)(message)
 
 
 def parser() -> Parser:

@@ -54,14 +54,11 @@ def counted(counts: Mapping[str, int], always: Container[str]) -> str:
 
 def told_others(others: Mapping[str, str], most: int = 6) -> str:
     """Returns the endings of other files with their numbers, the most frequent ones first."""
-    ends = Counter("links to folders" if why == LINK_TO_FOLDER else kept_ending(name) for name, why in others.items())
+    kept = {name: shown(ending_of(name))[:16] or "no ending" for name in others}
+    ends = Counter("links to folders" if why == LINK_TO_FOLDER else kept[name] for name, why in others.items())
     told = sorted(ends.items(), key=lambda it: (-it[1], it[0]))
     more = [f"more {sum(n for _, n in told[most:])}"] if len(told) > most else []
     return ", ".join([*(f"{it} {n}" for it, n in told[:most]), *more])
-
-
-def kept_ending(name: str) -> str:
-    return shown(ending_of(name))[:16] or "no ending"
 
 
 def line_of(it: Record) -> str:

@@ -150,13 +150,8 @@ def staged(commit: str | None, excluded: Sequence[str], stack: ExitStack) -> Fou
     stack.callback(os.chdir, os.getcwd())
     os.chdir(folder)
     bounds = Bounds((index.folder, os.path.join(index.top, ".git", ANNEX)), out=LEADS_OUT)
-    files = [it for it in wanted(index, changed, near) if not is_excluded(it, patterns)]
-    return Found({it: index.errors.get(it) or error_of(it, ENDINGS) for it in files}, {}, bounds=bounds)
-
-
-def wanted(index: Index, changed: Sequence[str], near: Sequence[str]) -> list[str]:
-    """Returns which of the names near those that have changed are checked."""
     graphs = {stem_of(it) for it in changed if parts_of(it)[1] in WITH_COMPANIONS}
     names = {*changed} | {it for it in near if parts_of(it)[1] in COMPANIONS and stem_of(it) in graphs}
-    links = {it for it in near if index.modes[it] == LINK and it not in index.errors and index.is_folder(it)}
-    return [it for it in near if it in names - links and index.modes[it] in (FILE, LINK)]
+    names -= {it for it in near if index.modes[it] == LINK and it not in index.errors and index.is_folder(it)}
+    files = [it for it in near if it in names and index.modes[it] in (FILE, LINK) and not is_excluded(it, patterns)]
+    return Found({it: index.errors.get(it) or error_of(it, ENDINGS) for it in files}, {}, bounds=bounds)

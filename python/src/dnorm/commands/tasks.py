@@ -32,7 +32,7 @@ from .staged import is_strict, staged
 from .workers import Workers
 
 # The exit statuses besides 0. The greatest one that applies counts.
-DIFFERS, REFUSED, USAGE, FAILED = 1, 2, 3, 4
+DIFFERS, REFUSED, FAILED = 1, 2, 4
 
 # How long the check of a staged file may take.
 MINUTE = 60

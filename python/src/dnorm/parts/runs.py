@@ -161,10 +161,10 @@ def blocks(piece: Piece) -> Iterator[bytes]:
             yield block
 
 
-def lines(piece: Piece) -> Iterator[bytes]:
-    """Yields bytes of a file in blocks of whole lines. Only the last line may lack its end."""
+def lines(blocks: Iterable[bytes]) -> Iterator[bytes]:
+    """Yields bytes in blocks of whole lines. Only the last line may lack its end."""
     rest = b""
-    for block in blocks(piece):
+    for block in blocks:
         end = block.rfind(b"\n") + 1
         if end:
             yield rest + block[:end]
@@ -195,7 +195,7 @@ def front(kind: str, nodes: int, arcs: int) -> bytes:
 
 def canon_part(program: str, kind: str, nodes: int, form: int, pieces: Iterable[Piece], to: str) -> Result:
     """Writes the canonical text of a part into a file, and returns the result."""
-    arcs = sum(arcs_in(block) for piece in pieces for block in lines(piece))
+    arcs = sum(arcs_in(block) for piece in pieces for block in lines(blocks(piece)))
     head = front(kind, nodes, arcs)
     with open(to, "wb") as file:
         try:
