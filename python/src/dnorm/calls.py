@@ -1,4 +1,4 @@
-"""The calls that check, canonicalise, compare and write texts. Each reads a text once."""
+"""The calls that read, check, canonicalise, compare and write texts. Each reads a text once."""
 
 from __future__ import annotations
 
@@ -8,15 +8,43 @@ import hashlib
 import os
 import warnings
 from collections.abc import Callable, Iterator
-from typing import Optional, Union
+from typing import Literal, Optional, Union, overload
 
 from .answers import AnyDifference, Checked, Form, Same
 from .errors import Refused
 from .files import Bounds, File, Pieces, Sink, Target, Text, enough_memory, name_of, sink_of
-from .instances import Instance
-from .library import Held, held
+from .instances import AnyInstance, Instance
+from .library import Held, LinesRead, held
 from .limits import Limit, at_once
+from .lines import ArcLines
 from .names import KINDS, parts_of
+
+
+@overload
+def read(file: File, form: Form = 1, *, lines: Literal[False] = False, timeout: Optional[float] = None) -> AnyInstance:
+    ...
+
+
+@overload
+def read(
+    file: File, form: Form = 1, *, lines: Literal[True], timeout: Optional[float] = None
+) -> tuple[AnyInstance, ArcLines]:
+    ...
+
+
+def read(
+    file: File, form: Form = 1, *, lines: bool = False, timeout: Optional[float] = None
+) -> Union[AnyInstance, tuple[AnyInstance, ArcLines]]:
+    """Returns the instance that a text poses: an `Sp`, `Max`, `Min`, `Ss`, `P2p` or `Co`. `form` is 1 or 2, and matters
+    only for `Min`. With `lines`, returns the instance and the arc lines of the text, which is read once."""
+    form, limit = checked_form(form), Limit(timeout, name_of(file))
+    with enough_memory(limit.name), contextlib.ExitStack() as stack:
+        of_lines = LinesRead() if lines else None
+        if of_lines:
+            stack.callback(of_lines.free)
+        found = stack.enter_context(held(Text(file, stack, limit), of_lines)).instance(form)
+        arc_lines = ArcLines(found.kind, *of_lines.end()) if of_lines else None
+    return (found, arc_lines) if arc_lines is not None else found
 
 
 def check(file: File, companion: Optional[File] = None, *, timeout: Optional[float] = None) -> Checked:

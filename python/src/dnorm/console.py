@@ -39,7 +39,9 @@ def stop(number: int, _: object) -> NoReturn:
 
 
 def heed() -> None:
-    """Lets signals end the run. What is ignored, as by nohup, stays ignored."""
+    """Lets signals end the run. What is ignored, as by nohup, stays ignored, but for SIGCHLD: the status of a child is
+    lost then, and Popen takes it for 0."""
+    signal.signal(signal.SIGCHLD, signal.SIG_DFL)
     for it in SIGNALS:
         if signal.getsignal(it) != signal.SIG_IGN:
             signal.signal(it, stop)

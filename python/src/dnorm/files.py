@@ -13,7 +13,7 @@ from collections.abc import Callable, Iterable, Iterator
 from typing import BinaryIO, NamedTuple, Optional, Protocol, Union
 
 from .causes import ANNEX, SHOWN, Cause, cause_of, hint_of_compressed, hint_of_missing
-from .compressed import COMPRESSORS, SIZE, compression_of, pieces
+from .compressed import COMPRESSORS, SIZE, Reads, compression_of, pieces
 from .errors import DnormError, Memory, Read, Write
 from .instances import Instance
 from .limits import Limit, Timed
@@ -183,8 +183,8 @@ class Text:
 
     def __init__(self, file: File, stack: contextlib.ExitStack, limit: Limit, bounds: Bounds | None = None) -> None:
         self.file, self.name, self.limit = file, name_of(file), limit
-        self.size = 0
-        self.text: io.FileIO | Iterator[bytes] = iter(())
+        self.size, self.is_file = 0, False
+        self._pieces: Iterator[bytes] = iter(())
         self._opened: io.FileIO | None = None
         self._mark: tuple[int, int] | None = None
         # What the next piece raises. An earlier text is judged first.
@@ -196,22 +196,21 @@ class Text:
                 with failing(Read, self.name):
                     self._opened = stack.enter_context(opened(file, limit, bounds))
                     self._mark = mark_of(self._opened)
-            self.text = self._begun()
+            self._pieces = self._begun()
         except Read as error:
             if isinstance(file, (str, os.PathLike)):
                 error = Read(error.name, error.reason, error.hint or hint_of_missing(file))
             self._error = error
-        self.is_file = isinstance(self.text, io.FileIO)
         self.is_compressed = self._opened is not None and not self.is_file
-        self._pieces = self._all(self.text)
 
-    def _begun(self) -> io.FileIO | Iterator[bytes]:
-        """Returns the file whose bytes are the text, or the pieces of the text."""
+    def _begun(self) -> Iterator[bytes]:
+        """Begins the text, and returns its pieces."""
         file = self.file
         if self._opened:
             with failing(Read, self.name):
                 ending = compression_of(self.name)
-            return self._decompressed(self._opened, ending) if ending else self._opened
+            self.is_file, timed = not ending, Timed(self._opened, self.limit)
+            return self._decompressed(self._opened, timed.read, ending) if ending else of_stream(timed)
         if isinstance(file, (bytes, bytearray, memoryview)):
             data = memoryview(file).cast("B")
             return (bytes(data[at : at + SIZE]) for at in range(0, len(data), SIZE))
@@ -222,9 +221,9 @@ class Text:
             raise TypeError(f"a file is {kinds}, and not {type(file).__name__}")
         return of_stream(file)
 
-    def _decompressed(self, file: io.FileIO, ending: str) -> Iterator[bytes]:
+    def _decompressed(self, file: io.FileIO, read: Reads, ending: str) -> Iterator[bytes]:
         try:
-            yield from pieces(Timed(file, self.limit).read, ending)
+            yield from pieces(read, ending)
         except (OSError, EOFError) as error:
             head = os.pread(file.fileno(), SHOWN, 0) if self._mark else b""
             hint = hint_of_compressed(head, self.name) if self._mark else None
@@ -237,9 +236,6 @@ class Text:
             piece = next(self._pieces, None)
         self.size += len(piece or b"")
         return piece
-
-    def _all(self, text: io.FileIO | Iterator[bytes]) -> Iterator[bytes]:
-        return of_stream(Timed(text, self.limit)) if isinstance(text, io.FileIO) else text
 
     def stop(self) -> None:
         """Lets reading the text fail from the next piece on, for a thread whose answer is no longer wanted."""
@@ -264,7 +260,7 @@ class Text:
             return self.file.again()
         if self._opened:
             self._opened.seek(0)
-        return self._all(self._begun())
+        return self._begun()
 
 
 class Sink:

@@ -5,7 +5,7 @@ from __future__ import annotations
 import importlib
 import operator
 from array import array
-from collections.abc import Iterator, Mapping
+from collections.abc import Callable, Iterator, Mapping
 from dataclasses import dataclass, fields
 from itertools import accumulate, islice
 from typing import TYPE_CHECKING, Any, ClassVar, Generic, Literal, NamedTuple, NoReturn, TypeVar, Union, overload
@@ -38,11 +38,9 @@ class Rows(Generic[Row]):
     """What the rows of an instance are."""
 
     if TYPE_CHECKING:
+        rows: Callable[[], Iterator[Row]]
 
         def __iter__(self) -> Iterator[Row]:
-            ...
-
-        def rows(self) -> Iterator[Row]:
             ...
 
 
@@ -50,9 +48,7 @@ class Arcs(Rows[Row]):
     """What the arcs of a graph are, which are its rows."""
 
     if TYPE_CHECKING:
-
-        def arcs(self) -> Iterator[Row]:
-            ...
+        arcs: Callable[[], Iterator[Row]]
 
 
 class Flows(dict[int, int]):

@@ -16,10 +16,10 @@ from itertools import starmap
 from typing import Any, cast
 
 from .answers import AnyDifference, Difference, Same
-from .columns import column
+from .columns import Own, column
 from .errors import DnormError, Endless, Memory, NoLibrary, Refused
 from .files import Text
-from .instances import CLASSES, column_names
+from .instances import CLASSES, AnyInstance, column_names
 from .limits import Lease
 from .program import page, place
 from .refusals import REFUSALS
@@ -219,6 +219,17 @@ class Held:
         for piece in self.canonical(form):
             found.update(piece)
         return found.hexdigest()
+
+    def instance(self, form: int) -> AnyInstance:
+        """Returns the instance, which keeps the columns."""
+        values: dict[str, Any] = dict(zip(column_names(CLASSES[self.kind]), map(Own, self.columns(form))))
+        if self.kind in GRAPHS:
+            values["nodes"] = self.nodes
+        if self.kind == "min":
+            values["supplies"] = dict(self.items())
+        if self.kind == "max":
+            values["source"], values["sink"] = self.items()[0]
+        return cast(AnyInstance, CLASSES[self.kind](**values))
 
     def first_difference(self, right: Held) -> Same | AnyDifference:
         """Returns where this instance and another one first differ."""

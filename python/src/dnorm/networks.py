@@ -91,7 +91,11 @@ def from_networkx(
         return from_arrays(Sp, lengths=weights_of(edges, weight, 1), **values)
     capacities = of_edges(capacity, edges, attributes_of(edges, capacity))
     if made is Max:
-        return from_arrays(Max, capacities=capacities, **terminals_of(graph, ends), **values)
+        missing = [it for it, node in ends.items() if node is None and it not in graph.graph]
+        if missing:
+            raise ValueError(f"the graph has no attribute {' and no '.join(missing)}, and the call no such argument")
+        terminals = {it: graph.graph[it] if node is None else node for it, node in ends.items()}
+        return from_arrays(Max, capacities=capacities, **terminals, **values)
     lows = of_edges(low, edges, [data.get(low, 0) for _, _, data in edges])
     caps = of_edges(f"{low} with the {capacity}", edges, [it + more for it, more in zip(lows, capacities)])
     values.update(supplies=supplies_of(graph, lows, demand), costs=weights_of(edges, weight, 0))
@@ -130,14 +134,6 @@ def attributes_of(edges: Edges, name: str, hint: str = "") -> list[Any]:
         if name not in data:
             raise ValueError(f"the edge from {tail} to {head} has no {name}{hint}")
     return [data[name] for _, _, data in edges]
-
-
-def terminals_of(graph: Any, ends: dict[str, Optional[int]]) -> dict[str, int]:
-    """Returns the source and the sink: those given, or else those of the graph."""
-    missing = [it for it, node in ends.items() if node is None and it not in graph.graph]
-    if missing:
-        raise ValueError(f"the graph has no attribute {' and no '.join(missing)}, and the call no such argument")
-    return {it: graph.graph[it] if node is None else node for it, node in ends.items()}
 
 
 def supplies_of(graph: Any, lows: Iterable[int], demand: str) -> dict[int, int]:

@@ -39,10 +39,8 @@ standard input is a terminal.
 REFUSED_LINE = re.compile(r"(?P<name>.*):(?P<place>[0-9]+|end): (?P<number>[12]?[0-9]) (?P<word>[A-Za-z]+)", re.S)
 OTHER_LINE = re.compile(r"(?P<name>.*): (?P<number>3[0-6]) (?P<word>[A-Za-z]+)(?: (?P<node>[0-9]+))?", re.S)
 WRONG = ("dnorm: bad command line", "dnorm: standard input named twice")
-# The options of each command with the number of its files, and the values that options take.
-COMMANDS: dict[str, tuple[list[str], int]] = {
-    "canon": (["--form"], 1), "check": (["--with"], 1), "compare": ([], 2), "show": ([], 1), "help": ([], 0),
-}  # fmt: skip
+# The option of each command, or none, with the number of its files, and the values that options take.
+COMMANDS = {"canon": ("--form", 1), "check": ("--with", 1), "compare": ("", 2), "show": ("", 1), "help": ("", 0)}
 VALUES: dict[str, tuple[str, ...]] = {"--form": ("1", "2"), "--with": ()}
 # What other programs call these commands.
 OTHER_NAMES = {"diff": "compare", "cmp": "compare", "validate": "check", "verify": "check", "lint": "check"}
@@ -153,26 +151,23 @@ def wrong_words(words: Sequence[str]) -> Iterator[str]:
     if command not in COMMANDS:
         yield unknown_command(command, "dnorm", COMMANDS)
         return
-    options, wanted = COMMANDS[command]
+    option, wanted = COMMANDS[command]
     files: list[str] = []
-    given: set[str] = set()
-    rest = iter(others)
+    is_given, rest = False, iter(others)
     for it in rest:
-        name, is_given, value = it.partition("=")
+        name, has_value, value = it.partition("=")
         if it == "--":
             files += rest
         elif it == "-" or not it.startswith("-"):
             files.append(it)
-        elif name not in options:
-            known = f"it has {', '.join(options)}" if options else "it has none but --help"
-            yield f"{command} has no option {name}: {known}"
+        elif name != option:
+            yield f"{command} has no option {name}: it has {option or 'none but --help'}"
             return
-        elif name in given:
+        elif is_given:
             yield f"{name} can be given once"
             return
         else:
-            given.add(name)
-            value = value if is_given else next(rest, "")
+            is_given, value = True, value if has_value else next(rest, "")
             if not value or VALUES[name] and value not in VALUES[name]:
                 yield f"{name} takes {' or '.join(VALUES[name]) or 'the name of a file'}, and not {value!r}"
                 return
@@ -214,7 +209,7 @@ def unknown_command(word: str, program: str, commands: Iterable[str]) -> str:
 def main(words: Sequence[str] | None = None) -> int:
     """Runs the command, and returns the status. A failure is a line on standard error; a signal ends this like other
     tools."""
-    for it in (signal.SIGINT, signal.SIGPIPE):
+    for it in (signal.SIGINT, signal.SIGPIPE, signal.SIGCHLD):
         signal.signal(it, signal.SIG_DFL)
     try:
         return explain(sys.argv[1:] if words is None else words)

@@ -143,6 +143,7 @@ def add_looks(one: argparse.ArgumentParser) -> None:
     one.add_argument("path", nargs="+", metavar="PATH", help="two files; or a folder")
     about = "of a folder: name the files that are new, gone, renamed or otherwise than in this manifest"
     one.add_argument("--since", metavar="FILE", help=about)
+    one.add_argument("--markdown", metavar="FILE", help="of a folder: also write a summary in Markdown into FILE")
     one.add_argument("--exclude", action="append", default=[], metavar="PATTERN", help=EXCLUDE)
     one.add_argument("--follow", action="store_true", help=FOLLOW)
     one.set_defaults(files_from=None, files0_from=None, within=None)
@@ -213,12 +214,14 @@ def check_files(found: argparse.Namespace, error: Callable[[str], NoReturn]) -> 
         if found.verify is None and found.quiet:
             error("--quiet goes with --verify")
         found.task = "manifest" if found.verify is None else "verify"
-    for option in ("junit", "output", "incremental"):
+    for option in ("junit", "output", "incremental", "markdown"):
         check_report(getattr(found, option, None), option, error)
     found.form = getattr(found, "form", None) or 1
     found.ending = getattr(found, "ending", None) or ENDINGS
-    if found.task == "look" and (len(found.path) > 2 or found.since is not None and len(found.path) > 1):
-        error("look takes two files, or one folder, and --since one folder")
+    if found.task == "look" and (
+        len(found.path) > 2 or (found.since is not None or found.markdown) and len(found.path) > 1
+    ):
+        error("look takes two files, or one folder, and --since and --markdown one folder")
 
 
 def check_report(name: str | None, option: str, error: Callable[[str], NoReturn]) -> None:

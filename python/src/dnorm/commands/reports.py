@@ -18,7 +18,6 @@ from ..library import Held
 from ..manifests import line_with
 from ..names import ending_of
 from ..pairs import VALUES, Differences, pairs_of, rows_of
-from ..reader import instance_by
 from ..records import SIZES, Contents, Range, Record
 
 # The sums that `list` tells.
@@ -94,18 +93,14 @@ def text_of(it: Record) -> str:
     return "".join(f"    {line}\n" for line in lines)
 
 
-def row_of(it: Record, is_first: bool) -> str:
-    """Returns the row of a file in the CSV table of `list`, with the heads before the first one."""
-    ranges = it.contents.fields if it.contents else {}
+def row_of(it: Record) -> str:
+    """Returns the row of a file in the CSV table of `list`."""
+    ranges, text = it.contents.fields if it.contents else {}, io.StringIO()
     found = {f"{field}_{of}": value for field, range_ in ranges.items() for of, value in range_._asdict().items()}
-    rows: list[dict[str, object]] = [dict(zip(HEADS, HEADS))] if is_first else []
-    made = ""
-    for row in [*rows, {**it.as_dict(), **found}]:
-        text = io.StringIO()
-        # Only a terminator with CR has a name with CR quoted.
-        csv.DictWriter(text, HEADS, extrasaction="ignore", lineterminator="\r\n").writerow(row)
-        made += text.getvalue().removesuffix("\r\n") + "\n"
-    return made
+    # Only a terminator with CR has a name with CR quoted.
+    row = csv.DictWriter(text, HEADS, extrasaction="ignore", lineterminator="\r\n")
+    row.writerow({**it.as_dict(), **found})
+    return text.getvalue().removesuffix("\r\n") + "\n"
 
 
 def annotation_of(it: Record) -> str:
@@ -195,7 +190,7 @@ def lines_of_differences(it: Differences) -> Iterator[str]:
 
 def lines_of_show(it: Held) -> Iterator[str]:
     """Yields the lines that `dnorm show` prints of a text."""
-    found = instance_by(it, 2)
+    found = it.instance(2)
     yield f"kind {it.kind}\n" + (f"nodes {it.nodes}\n" if isinstance(found, Graph) else "") + f"lines {it.lines}\n"
     if isinstance(found, Min):
         yield f"supplies {len(found.supplies)}\n"

@@ -149,9 +149,11 @@ def staged(commit: str | None, excluded: Sequence[str], stack: ExitStack) -> Fou
         index.write(it for it in near if index.modes[it] in (FILE, LINK))
     stack.callback(os.chdir, os.getcwd())
     os.chdir(folder)
-    bounds = Bounds((index.folder, os.path.join(index.top, ".git", ANNEX)), out=LEADS_OUT)
+    found = Found(ENDINGS, patterns)
+    found.bounds = Bounds((index.folder, os.path.join(index.top, ".git", ANNEX)), out=LEADS_OUT)
     graphs = {stem_of(it) for it in changed if parts_of(it)[1] in WITH_COMPANIONS}
     names = {*changed} | {it for it in near if parts_of(it)[1] in COMPANIONS and stem_of(it) in graphs}
     names -= {it for it in near if index.modes[it] == LINK and it not in index.errors and index.is_folder(it)}
     files = [it for it in near if it in names and index.modes[it] in (FILE, LINK) and not is_excluded(it, patterns)]
-    return Found({it: index.errors.get(it) or error_of(it, ENDINGS) for it in files}, {}, bounds=bounds)
+    found.files = {it: index.errors.get(it) or error_of(it, ENDINGS) for it in files}
+    return found

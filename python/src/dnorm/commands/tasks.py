@@ -25,8 +25,8 @@ from ..manifests import text_of as text_of_manifest
 from ..names import place_of, real
 from ..pairs import differences
 from ..records import Partners, Reading, Record, Tells, counts_of
-from .look import page_of_folder, page_of_pair
-from .reports import annotation_of, causes_of, counted, junit, line_of, lines_of_differences, lines_of_show
+from .look import page_of_folder, page_of_pair, summary_of
+from .reports import HEADS, annotation_of, causes_of, counted, junit, line_of, lines_of_differences, lines_of_show
 from .reports import record_of_differences, row_of, text_of, told_others
 from .staged import is_strict, staged
 from .workers import Workers
@@ -267,15 +267,13 @@ class Run:
         self.sum_up({}, {"groups": len(same), "links": links})
 
     def list(self) -> None:
-        rows = 0
+        heads = iter([",".join(HEADS) + "\n"])
 
         def take(it: Record) -> None:
-            nonlocal rows
             if it.error or self.is_json:
                 self.tell(it)
             elif self.words.csv:
-                self.console.print(row_of(it, not rows))
-                rows += 1
+                self.console.print(next(heads, "") + row_of(it))
             else:
                 self.console.print(line_with(it.name, after=f": {it.kind}") + text_of(it))
 
@@ -348,7 +346,11 @@ class Run:
             places = {place_of(it): it for it in collection.manifest.checksums}
             sums = {places.get(place_of(it), it): checksum for it, checksum in older.checksums.items()}
             changes = manifest_changes(Manifest(older.form, sums), collection.manifest)
-        self.console.print(page_of_folder(collection, words.path[0], self.status, changes))
+        if words.markdown:
+            with self.sink(words.markdown) as sink:
+                sink.take(summary_of(collection, words.path[0], self.status, changes).encode())
+        if words.markdown != "-":
+            self.console.print(page_of_folder(collection, words.path[0], self.status, changes))
         self.sum_up_checks()
 
     def found(self) -> Found:
@@ -357,11 +359,11 @@ class Run:
         words = self.words
         found = find(words.path, words.ending, words.exclude, follow=words.follow, within=words.within)
         self.excluded += found.excluded
-        for it in found.unused:
+        for it in [it for it in words.exclude if it not in found.used]:
             self.console.complain(line_with(it, before="--exclude ", after=": nothing matches it"))
         if words.strict:
             errors = {name: Read(name, reason) for name, reason in found.others.items()}
-            return Found(in_order_of_names({**found.files, **errors}), {}, bounds=found.bounds)
+            found.files, found.others = in_order_of_names({**found.files, **errors}), {}
         self.others = found.others
         return found
 
