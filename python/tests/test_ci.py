@@ -10,11 +10,15 @@ import tarfile
 import textwrap
 from xml.etree import ElementTree
 
+import pytest
 from known import COSTS, ROADS
 from needs import leave_out
 from shared import ROOT, Answer, listed, make, run, said, text_of, write
 from test_calls import READS
 from test_folders import fields_of_hook, module
+
+import dnorm
+from dnorm.commands import look
 
 pytestmark = READS
 WORKFLOW = f"{ROOT}/python/ci/github.yml"
@@ -109,9 +113,9 @@ def test_workflow(tested: str, c_library: str) -> None:
     assert (len(found), found[0].status) == (2, 1), "a release with another checksum"
 
 
-def test_summary() -> None:
-    """The summary in Markdown has refused files, then failed ones, what has changed since a manifest, and groups. No
-    character of a name or a text has a meaning there."""
+def test_summary(monkeypatch: pytest.MonkeyPatch) -> None:
+    """The summary in Markdown has refused files, then failed ones, what has changed since a manifest, and groups, and
+    not too many of them. No character of a name or a text has a meaning there."""
     name = "m/|a`<img src=x>[l](http:e)*_ww_~~&amp;@u #1!\\\x1b.gr"
     make(
         {
@@ -122,21 +126,29 @@ def test_summary() -> None:
             name: b"p sp 2 1\na 1 2 </td>|\n",
         }
     )
+    os.symlink("nowhere", "m/f.gr")
     write("list", "".join(f"{0:064}  m/{it}.gr\n" for it in "bx"))
     found = module("look", "--since", "list", "--markdown", "-", "m")
     told = found.out.decode()
     assert (told.isascii(), found.status) == (True, 4) and not re.search(r"[^\w\n |&#;:,-]|_", told), told
     head, _, counts, _, *rows = html.unescape(told).splitlines()
-    assert (head, counts) == ("### dnorm: m", "3 accepted, 1 refused, 1 failed; status 4")
+    assert (head, counts) == ("### dnorm: m", "3 accepted, 1 refused, 2 failed; status 4")
     hint = "a SRC=1 DST=2 LENGTH=</td>|"
     assert rows == [
         "| File | Line | Cause | Hint |", "| --- | --- | --- | --- |",
         f"| {name[:-4]}\\x1b.gr | 2 | 9 NotANumber | {hint}; Scale to whole numbers; remove a fraction that is 0 |",
         "| m/c.gr.gz |  | 31 Read (the compressed data end too early) | The file is cut or damaged: get it again |",
+        "| m/f.gr |  | 31 Read (No such file or directory) |  |",
         "", "| Group | Files | Names |", "| --- | --- | --- |", "| changed | 1 | m/b.gr |",
         "| new | 2 | m/d.gr, m/e.min |", "| gone | 1 | m/x.gr |", "| one problem | 2 | m/b.gr, m/d.gr |",
     ]  # fmt: skip
     assert module("look", "--markdown", "m/b.gr", "m").status == 3, "no summary takes the place of a text"
+    monkeypatch.setattr(look, "FILES", 1)
+    monkeypatch.setattr(look, "LISTED", 2)
+    *_, one, _, more, _, _, _, group = html.unescape(
+        look.summary_of(dnorm.check_folder("m"), "m", 4, None)
+    ).splitlines()
+    assert (one[:12], more, group) == ("| m/c.gr.gz ", "And 1 more.", "| one problem | 2 | m/b.gr, .. |"), group
 
 
 def test_pre_commit() -> None:

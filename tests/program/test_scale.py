@@ -252,6 +252,16 @@ def test_growing_chunks(scale: Scale) -> None:
     assert 100 < len(text_of("log").split()) < 500, "half as many chunks as of 2 lines"
 
 
+def test_disk(scale: Scale) -> None:
+    """Of sp, no chunk of the text is on the disk any more once ranges are made, as the help says."""
+    write("log", "")
+    listing = scale.stand_in(f'ls {scale.temporary}/* >> log; echo = >> log; exec {shlex.quote(scale.program)} "$@"')
+    text = b"p sp 9 9\n" + b"".join(b"a %d 1 1\n" % at for at in range(1, 10))
+    scale.run("--lines", "3", "--parts", "2", "--jobs", "1", "-", given=text, tested=listing)
+    last = text_of("log").split("=")[-2].split()
+    assert [it for it in last if re.fullmatch(r"chunk\.\d+", it)] == [] != [it for it in last if "range" in it], last
+
+
 @pytest.mark.parametrize("words", BAD_WORDS)
 def test_wrong_words(scale: Scale, words: str) -> None:
     found = run(scale.words(*words.split()))

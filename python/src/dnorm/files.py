@@ -9,7 +9,7 @@ import os
 import secrets
 import stat
 import tempfile
-from collections.abc import Callable, Iterable, Iterator
+from collections.abc import Callable, Iterator
 from typing import BinaryIO, NamedTuple, Optional, Protocol, Union
 
 from .causes import ANNEX, SHOWN, Cause, cause_of, hint_of_compressed, hint_of_missing
@@ -84,16 +84,6 @@ def write_all(file: BinaryIO, data: bytes) -> None:
     rest = memoryview(data)
     while rest:
         rest = rest[file.write(rest) :]
-
-
-class Pieces:
-    """A stream of these pieces, one after another."""
-
-    def __init__(self, name: str, pieces: Iterable[bytes]) -> None:
-        self.name, self._pieces = name, iter(pieces)
-
-    def read(self, _: int, /) -> bytes:
-        return next(self._pieces, b"")
 
 
 class Copied:

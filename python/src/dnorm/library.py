@@ -18,7 +18,7 @@ from typing import Any, cast
 from .answers import AnyDifference, Difference, Same
 from .columns import Own, column
 from .errors import DnormError, Endless, Memory, NoLibrary, Refused
-from .files import Text
+from .files import Sink, Text
 from .instances import CLASSES, AnyInstance, column_names
 from .limits import Lease
 from .program import page, place
@@ -167,10 +167,6 @@ class Held:
             found += sum(map(operator.eq, some[::5], some[1::5]))
         return found
 
-    def items(self) -> list[tuple[int, int]]:
-        """Returns the first two numbers of what a graph has beside its arcs."""
-        return list(zip(*(it.tolist() for it in self._items(2))))
-
     def _items(self, width: int) -> list[Any]:
         """Returns the first columns of the items, which have three numbers each."""
         return self._copied(functools.partial(self._library.items, self._handle), self._item_count, 3, width)
@@ -225,10 +221,12 @@ class Held:
         values: dict[str, Any] = dict(zip(column_names(CLASSES[self.kind]), map(Own, self.columns(form))))
         if self.kind in GRAPHS:
             values["nodes"] = self.nodes
+            # What a graph has beside its arcs.
+            items = [*zip(*(it.tolist() for it in self._items(2)))]
         if self.kind == "min":
-            values["supplies"] = dict(self.items())
+            values["supplies"] = dict(items)
         if self.kind == "max":
-            values["source"], values["sink"] = self.items()[0]
+            values["source"], values["sink"] = items[0]
         return cast(AnyInstance, CLASSES[self.kind](**values))
 
     def first_difference(self, right: Held) -> Same | AnyDifference:
@@ -296,8 +294,9 @@ class LinesRead:
 
 
 @contextlib.contextmanager
-def held(text: Text, lines: LinesRead | None = None) -> Iterator[Held]:
-    """Reads a text, and its arc lines if they are wanted, and frees its instance at the end."""
+def held(text: Text, lines: LinesRead | Sink | None = None) -> Iterator[Held]:
+    """Reads a text, of whose pieces its arc lines or a copy are made if they are wanted, and frees its instance at the
+    end."""
     found, handle = library(), Handle()
     address = ctypes.byref(handle)
     lease = Lease(lambda: found.free(address))
@@ -315,7 +314,7 @@ def held(text: Text, lines: LinesRead | None = None) -> Iterator[Held]:
         lease.end()
 
 
-def fed(found: Library, address: Any, text: Text, lines: LinesRead | None) -> Any:
+def fed(found: Library, address: Any, text: Text, lines: LinesRead | Sink | None) -> Any:
     """Feeds a text to a reader, to its end or to its first fault, and returns the status of the last piece. A
     compressed file is read to its end, since only the end tells whether its lines are right."""
     status, size = Status(), 0

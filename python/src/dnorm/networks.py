@@ -3,7 +3,7 @@
 from __future__ import annotations
 
 from array import array
-from collections.abc import Callable, Iterable
+from collections.abc import Callable
 from typing import Any, Literal, Optional, TypeVar, Union, overload
 
 from .columns import numbers_of
@@ -82,11 +82,8 @@ def from_networkx(
     if {*graph} != {*range(1, len(graph) + 1)}:
         raise ValueError(f"the {len(graph)} nodes are not the numbers 1 to {len(graph)}")
     edges = list(graph.edges(data=True))
-    values: dict[str, Any] = {
-        "nodes": len(graph),
-        "tails": [it for it, *_ in edges],
-        "heads": [it for _, it, _ in edges],
-    }
+    tails, heads = ([it[at] for it in edges] for at in (0, 1))
+    values: dict[str, Any] = {"nodes": len(graph), "tails": tails, "heads": heads}
     if made is Sp:
         return from_arrays(Sp, lengths=weights_of(edges, weight, 1), **values)
     capacities = of_edges(capacity, edges, attributes_of(edges, capacity))
@@ -98,8 +95,13 @@ def from_networkx(
         return from_arrays(Max, capacities=capacities, **terminals, **values)
     lows = of_edges(low, edges, [data.get(low, 0) for _, _, data in edges])
     caps = of_edges(f"{low} with the {capacity}", edges, [it + more for it, more in zip(lows, capacities)])
-    values.update(supplies=supplies_of(graph, lows, demand), costs=weights_of(edges, weight, 0))
-    return from_arrays(Min, lows=lows, caps=caps, **values)
+    # The flows of the nodes before the lower bounds were sent.
+    flows = {node: -whole(f"the {demand} of node {node}", it) for node, it in graph.nodes(data=demand, default=0)}
+    for (tail, head, _), it in zip(edges, lows):
+        flows[tail] += it
+        flows[head] -= it
+    supplies = {node: flow for node, flow in sorted(flows.items()) if flow}
+    return from_arrays(Min, lows=lows, caps=caps, supplies=supplies, costs=weights_of(edges, weight, 0), **values)
 
 
 def check_terminals(made: type[Graph], ends: dict[str, Optional[int]]) -> None:
@@ -134,15 +136,6 @@ def attributes_of(edges: Edges, name: str, hint: str = "") -> list[Any]:
         if name not in data:
             raise ValueError(f"the edge from {tail} to {head} has no {name}{hint}")
     return [data[name] for _, _, data in edges]
-
-
-def supplies_of(graph: Any, lows: Iterable[int], demand: str) -> dict[int, int]:
-    """Returns the flows of the nodes before the lower bounds were sent, without those that are 0."""
-    flows = {node: -whole(f"the {demand} of node {node}", it) for node, it in graph.nodes(data=demand, default=0)}
-    for (tail, head), low in zip(graph.edges(), lows):
-        flows[tail] += low
-        flows[head] -= low
-    return {node: flows[node] for node in sorted(flows) if flows[node]}
 
 
 @overload

@@ -91,16 +91,12 @@ def explain_run(words: Sequence[str]) -> int:
                 process.stdin.flush()
     _, said = process.communicate()
     signal.signal(signal.SIGPIPE, signal.SIG_DFL)
-    for told in lines_of(os.fsdecode(said)):
+    whole = os.fsdecode(said).removesuffix("\n")
+    found = REFUSED_LINE.fullmatch(whole) or OTHER_LINE.fullmatch(whole)
+    # A name may have LF, and then all is one line.
+    for told in [whole] if found and os.path.lexists(found[1]) else whole.splitlines():
         say(2, told, wrong_words(words) if told == WRONG[0] else causes_of(told, copy))
     return process.returncode if process.returncode >= 0 else 128 - process.returncode
-
-
-def lines_of(said: str) -> list[str]:
-    """Returns the lines on standard error of a run, or the one that names a file with LF in its name."""
-    whole = said.removesuffix("\n")
-    found = REFUSED_LINE.fullmatch(whole) or OTHER_LINE.fullmatch(whole)
-    return [whole] if found and os.path.lexists(found[1]) else said.splitlines()
 
 
 def status_of(told: str) -> int:

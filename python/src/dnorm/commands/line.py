@@ -146,7 +146,7 @@ def add_looks(one: argparse.ArgumentParser) -> None:
     one.add_argument("--markdown", metavar="FILE", help="of a folder: also write a summary in Markdown into FILE")
     one.add_argument("--exclude", action="append", default=[], metavar="PATTERN", help=EXCLUDE)
     one.add_argument("--follow", action="store_true", help=FOLLOW)
-    one.set_defaults(files_from=None, files0_from=None, within=None)
+    one.set_defaults(files_from=None, files0_from=None, within=None, strict=False)
 
 
 def add_comparison(one: argparse.ArgumentParser) -> None:
@@ -215,21 +215,16 @@ def check_files(found: argparse.Namespace, error: Callable[[str], NoReturn]) -> 
             error("--quiet goes with --verify")
         found.task = "manifest" if found.verify is None else "verify"
     for option in ("junit", "output", "incremental", "markdown"):
-        check_report(getattr(found, option, None), option, error)
+        name = getattr(found, option, None)
+        if name == "-" and option == "incremental":
+            error("--incremental names a file")
+        # A report never takes the place of a text, also through a link.
+        if name and any(is_text(it) or unread_text(it) for it in (name, real(name))):
+            error(f"--{option} {quoted(name)}: a file of such a name is a text, and no report takes its place")
     found.form = getattr(found, "form", None) or 1
     found.ending = getattr(found, "ending", None) or ENDINGS
-    if found.task == "look" and (
-        len(found.path) > 2 or (found.since is not None or found.markdown) and len(found.path) > 1
-    ):
+    if found.task == "look" and len(found.path) > (1 if found.since is not None or found.markdown else 2):
         error("look takes two files, or one folder, and --since and --markdown one folder")
-
-
-def check_report(name: str | None, option: str, error: Callable[[str], NoReturn]) -> None:
-    """Refuses a report in the place of a text, also through a link."""
-    if name == "-" and option == "incremental":
-        error("--incremental names a file")
-    if name and any(is_text(it) or unread_text(it) for it in (name, real(name))):
-        error(f"--{option} {quoted(name)}: a file of such a name is a text, and no report takes its place")
 
 
 def named(found: argparse.Namespace) -> list[str]:

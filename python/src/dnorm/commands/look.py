@@ -303,9 +303,8 @@ def table_of(it: Collection, groups: Sequence[Sequence[str]], changes: Optional[
     lines = [one.error.line if isinstance(one.error, Refused) else None for one in it.records]
     columns |= {"line": lines} if any(lines) else {}
     columns |= {"since": (changed_as.get(one.name) for one in it.records)} if changes else {}
-    told: dict[str, object] = {
-        name: " ".join("" if n is None else str(n) for n in cells) for name, cells in columns.items()
-    }
+    texts = {name: ("" if n is None else str(n) for n in cells) for name, cells in columns.items()}
+    told: dict[str, object] = {name: " ".join(cells) for name, cells in texts.items()}
     told |= {"kinds": kinds, "colours": [*COLOURS.values()], "notes": [*map(shown, numbers)], "sinces": SINCE}
     told["names"] = "\n".join(shown(one.name) for one in it.records)
     return {"files": told}

@@ -106,22 +106,14 @@ def row_of(it: Record) -> str:
 def annotation_of(it: Record) -> str:
     """Returns the line by which GitHub shows an error at a line of a file, or a warning about an accepted file with
     remarks. There is none for any other accepted file."""
-    properties = {"file": os.path.normpath(it.name)}
+    properties, level, told = {"file": os.path.normpath(it.name)}, "error", [f"{it.name}{it.what}", *cause_of(it)]
     if not it.error:
-        text = f"{it.name}: accepted {it.kind}, {', '.join(it.remarks)}"
-        return annotation("warning", properties, text) if it.remarks else ""
-    parts = [f"{it.name}{it.what}"]
+        level, told = "warning", [f"{it.name}: accepted {it.kind}, {', '.join(it.remarks)}"] * bool(it.remarks)
     if isinstance(it.error, Refused):
-        if it.error.line is not None:
-            properties["line"] = str(it.error.line)
+        properties |= {} if it.error.line is None else {"line": str(it.error.line)}
         properties["title"] = f"dnorm: {it.error.number} {it.error.word}"
-    parts += cause_of(it)
-    return annotation("error", properties, "\n".join(parts))
-
-
-def annotation(level: str, properties: dict[str, str], text: str) -> str:
-    fields = ",".join(f"{key}={escaped(value, NO_PROPERTY)}" for key, value in properties.items())
-    return f"::{level} {fields}::{escaped(text, NO_MESSAGE)}\n"
+    fields, text = (f"{key}={escaped(value, NO_PROPERTY)}" for key, value in properties.items()), "\n".join(told)
+    return f"::{level} {','.join(fields)}::{escaped(text, NO_MESSAGE)}\n" if told else ""
 
 
 def escaped(text: str, forbidden: re.Pattern[str]) -> str:

@@ -72,11 +72,8 @@ class Index:
                 commit = os.fsdecode(self.git("rev-parse", "--verify", "--quiet", "HEAD"))[:-1]
             except Read:
                 commit = os.fsdecode(self.git("hash-object", "-t", "tree", os.devnull))[:-1]
-        return named(
-            self.git(
-                "diff-index", "--cached", "--ita-invisible-in-index", "--name-only", "--no-renames", "-z", commit, "--"
-            )
-        )
+        only = ("--cached", "--ita-invisible-in-index", "--name-only", "--no-renames", "-z")
+        return named(self.git("diff-index", *only, commit, "--"))
 
     def place(self, name: str) -> str:
         return os.path.join(self.folder, name)

@@ -56,11 +56,10 @@ class Run:
         self.records: list[Record] = []
         self.own = self.excluded = 0
         self.others: dict[str, str] = {}
-        # How many files are done, if not all of them; what takes the results that a signal has left; and what prints
-        # more about all results.
+        # How many files are done, if not all of them; the results that a signal has left; and what takes a result.
         self.unfinished = ""
-        self.take_rest: Callable[[], None] = lambda: None
-        self.print_rest: Callable[[], None] = lambda: None
+        self.rest: list[Record] = []
+        self.take: Callable[[Record], None] = lambda _: None
 
     @property
     def status(self) -> int:
@@ -93,7 +92,6 @@ class Run:
             found = self.found() if words.staged is None else staged(words.staged or None, words.exclude, stack)
             report = stack.enter_context(self.sink(words.junit)) if words.junit else None
             reading = self.reading(found, "kind", self.partners(found) if words.companions else None)
-            self.print_rest = self.print_end
             self.read(in_order_of_names(found.files), reading.record, self.print_record)
             if report:
                 report.take(junit(self.records))
@@ -336,8 +334,7 @@ class Run:
             return
         older = None if words.since is None else read_manifest(self.given(words.since))
         words.form = older.form if older else words.form
-        found = find(words.path, words.ending, words.exclude, follow=words.follow)
-        self.others, self.excluded = found.others, found.excluded
+        found = self.found()
         partners = self.partners(found)
         self.read(in_order_of_names(found.files), self.reading(found, "whole", partners).record, lambda _: None)
         collection = Collection(tuple(self.records), found.others, found.excluded, words.form)
@@ -376,11 +373,7 @@ class Run:
             self.console.step()
             return found
 
-        def taken(it: Record) -> None:
-            self.records.append(it)
-            take(it)
-
-        names = [*files]
+        names, self.take = [*files], take
         size = sum(os.path.getsize(it) for it in names if os.path.isfile(it)) if self.console.is_terminal else 0
         self.console.expect(len(names), size)
         workers, ended = Workers(one, names, self.words.jobs), 0
@@ -388,27 +381,27 @@ class Run:
             for at in range(len(names)):
                 found = workers.result(at, self.console.draw)
                 ended += 1
-                taken(found)
+                self.taken(found)
                 if getattr(self.words, "exit_first", False) and found.error:
                     self.unfinished = f"{ended} of {len(names)} done"
                     workers.stop()
                     break
         except BaseException:
-            rest = workers.stop()
-
-            def take_rest() -> None:
-                for it in rest:
-                    taken(it)
-                self.unfinished = f"{ended + len(rest)} of {len(names)} done"
-
-            self.take_rest = take_rest
+            self.rest = workers.stop()
+            self.unfinished = f"{ended + len(self.rest)} of {len(names)} done"
             raise
+
+    def taken(self, it: Record) -> None:
+        self.records.append(it)
+        self.take(it)
 
     def stop(self) -> None:
         """Prints what is known of a run that a signal ends."""
-        self.take_rest()
+        for it in self.rest:
+            self.taken(it)
         if self.unfinished:
-            self.print_rest()
+            if self.words.task == "check":
+                self.print_end()
             self.sum_up({})
 
     def tell(self, it: Record) -> None:

@@ -77,7 +77,6 @@ class Parts:
         self.options, self.folder, self.program, self.out, self.has_output = options, folder, program, out, has_output
         self.console = Console()
         self.head = f"{folder}/head.raw"
-        self.kind, self.nodes, self.declared = "", 0, 0
         # The refusal of a `max` text without a source or a sink, which is reported only at the end.
         self.missing = ""
 
