@@ -446,6 +446,9 @@ def test_odd_lines() -> None:
         start, end = error.mark or (0, 0)
         assert (error.mark is None, end - start) == (word == "", len(word)), line
         assert ((error.text or "")[start:end], (error.hint or "").split("\n")[:1]) == (word, first), line
+    # dnorm-explain may read another text than dnorm has refused.
+    _, hint, _ = causes.cause_of(lambda: iter([b"p max 2 3\na 1 2 \na 1 2 3\na 1 2 4\n"]), None, 4, 17)
+    assert (hint or "").endswith("The capacities from 1 to 2 sum to 3 before this line, and with it to 7"), hint
 
 
 def test_in_javascript(monkeypatch: pytest.MonkeyPatch) -> None:
