@@ -8,6 +8,7 @@ import re
 import shutil
 import tarfile
 import textwrap
+from typing import Any
 from xml.etree import ElementTree
 
 import pytest
@@ -145,10 +146,11 @@ def test_summary(monkeypatch: pytest.MonkeyPatch) -> None:
     assert module("look", "--markdown", "m/b.gr", "m").status == 3, "no summary takes the place of a text"
     monkeypatch.setattr(look, "FILES", 1)
     monkeypatch.setattr(look, "LISTED", 2)
-    *_, one, _, more, _, _, _, group = html.unescape(
-        look.summary_of(dnorm.check_folder("m"), "m", 4, None)
-    ).splitlines()
+    found_now = dnorm.check_folder("m")
+    *_, one, _, more, _, _, _, group = html.unescape(look.summary_of(found_now, "m", 4, None)).splitlines()
     assert (one[:12], more, group) == ("| m/c.gr.gz ", "And 1 more.", "| one problem | 2 | m/b.gr, .. |"), group
+    files: Any = look.table_of(found_now, [], None)["files"]
+    assert files["kind"].count(" ") == len(found_now.records) - 1, "the page has a kind for each file"
 
 
 def test_pre_commit() -> None:
