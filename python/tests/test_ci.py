@@ -2,18 +2,24 @@
 a release that is made of the tested program and the package; and the hook in .pre-commit-hooks.yaml checks files as
 pre-commit calls it."""
 
+import html
 import os
 import re
 import shutil
 import tarfile
 import textwrap
+from typing import Any
 from xml.etree import ElementTree
 
-from known import ROADS
+import pytest
+from known import COSTS, ROADS
 from needs import leave_out
-from shared import ROOT, Answer, listed, run, said, text_of, write
+from shared import ROOT, Answer, listed, make, run, said, text_of, write
 from test_calls import READS
-from test_folders import fields_of_hook
+from test_folders import fields_of_hook, module
+
+import dnorm
+from dnorm.commands import look
 
 pytestmark = READS
 WORKFLOW = f"{ROOT}/python/ci/github.yml"
@@ -52,6 +58,7 @@ class Runner:
         self.environment |= dict(VALUE.findall(text))
         self.environment |= {"RELEASE": f"file://{here}/release", "VERSION": VERSION, "PYTHONDONTWRITEBYTECODE": "1"}
         self.environment |= {"RUNNER_TEMP": f"{here}/temp", "GITHUB_PATH": f"{here}/path", "GITHUB_ENV": f"{here}/env"}
+        self.environment["GITHUB_STEP_SUMMARY"] = f"{here}/summary"
 
     def run(self) -> list[Answer]:
         """Returns what the steps print: those up to the first that fails, and those that run always."""
@@ -96,6 +103,7 @@ def test_workflow(tested: str, c_library: str) -> None:
     wanted = Answer(lines, b"2 accepted, 1 refused, 0 failed, 1 companion without a graph\n", 2)
     assert runner.run()[1] == wanted, "a repository with a refused text and a companion alone"
     assert ">2 accepted, 1 refused, 0 failed, " in text_of("temp/dnorm.html"), "its page"
+    assert "\n2 accepted, 1 refused, 0 failed, " in text_of("summary"), "its summary"
     suite = ElementTree.parse("temp/dnorm.xml").find("testsuite")
     assert (suite is not None and suite.get("failures")) == "1", "its report"
     shutil.rmtree("texts")
@@ -104,6 +112,45 @@ def test_workflow(tested: str, c_library: str) -> None:
     write(f"release/dnorm-{VERSION}-x86_64-linux.tar.gz", b"other")
     found = runner.run()
     assert (len(found), found[0].status) == (2, 1), "a release with another checksum"
+
+
+def test_summary(monkeypatch: pytest.MonkeyPatch) -> None:
+    """The summary in Markdown has refused files, then failed ones, what has changed since a manifest, and groups, and
+    not too many of them. No character of a name or a text has a meaning there."""
+    name = "m/|a`<img src=x>[l](http:e)*_ww_~~&amp;@u #1!\\\x1b.gr"
+    make(
+        {
+            "m/b.gr": ROADS,
+            "m/c.gr.gz": b"\x1f\x8b",
+            "m/d.gr": ROADS,
+            "m/e.min": COSTS,
+            name: b"p sp 2 1\na 1 2 </td>|\n",
+        }
+    )
+    os.symlink("nowhere", "m/f.gr")
+    write("list", "".join(f"{0:064}  m/{it}.gr\n" for it in "bx"))
+    found = module("look", "--since", "list", "--markdown", "-", "m")
+    told = found.out.decode()
+    assert (told.isascii(), found.status) == (True, 4) and not re.search(r"[^\w\n |&#;:,-]|_", told), told
+    head, _, counts, _, *rows = html.unescape(told).splitlines()
+    assert (head, counts) == ("### dnorm: m", "3 accepted, 1 refused, 2 failed; status 4")
+    hint = "a SRC=1 DST=2 LENGTH=</td>|"
+    assert rows == [
+        "| File | Line | Cause | Hint |", "| --- | --- | --- | --- |",
+        f"| {name[:-4]}\\x1b.gr | 2 | 9 NotANumber | {hint}; Scale to whole numbers; remove a fraction that is 0 |",
+        "| m/c.gr.gz |  | 31 Read (the compressed data end too early) | The file is cut or damaged: get it again |",
+        "| m/f.gr |  | 31 Read (No such file or directory) |  |",
+        "", "| Group | Files | Names |", "| --- | --- | --- |", "| changed | 1 | m/b.gr |",
+        "| new | 2 | m/d.gr, m/e.min |", "| gone | 1 | m/x.gr |", "| one problem | 2 | m/b.gr, m/d.gr |",
+    ]  # fmt: skip
+    assert module("look", "--markdown", "m/b.gr", "m").status == 3, "no summary takes the place of a text"
+    monkeypatch.setattr(look, "FILES", 1)
+    monkeypatch.setattr(look, "LISTED", 2)
+    found_now = dnorm.check_folder("m")
+    *_, one, _, more, _, _, _, group = html.unescape(look.summary_of(found_now, "m", 4, None)).splitlines()
+    assert (one[:12], more, group) == ("| m/c.gr.gz ", "And 1 more.", "| one problem | 2 | m/b.gr, .. |"), group
+    files: Any = look.table_of(found_now, [], None)["files"]
+    assert files["kind"].count(" ") == len(found_now.records) - 1, "the page has a kind for each file"
 
 
 def test_pre_commit() -> None:

@@ -25,7 +25,6 @@ from shared import IN_A_WAIT, LIMIT, ROOT, Answer, bytes_of, make, run, said, te
 from test_calls import COMPRESS, PACKAGE, READS, python, standing_in
 
 import dnorm
-from dnorm.commands.tasks import DONE
 from dnorm.records import SIZES
 from dnorm.refusals import REFUSALS
 
@@ -453,7 +452,7 @@ def test_signals(stand_in: str) -> None:
                 time.sleep(0.01)
             process.send_signal(number)
             out, err = process.communicate(timeout=LIMIT)
-            done = "the same" if "--verify" in words else DONE[words.split()[0]]
+            done = "the same" if "--verify" in words else "listed" if words.startswith("manifest") else "accepted"
             line = f"0 {done}, 0 refused, 0 failed, 0 of 9 done\n".encode()
             assert (out, err, process.returncode) == (b"", line, -number), f"{words} after {number.name}"
             assert (bytes_of("kept"), hidden()) == (b"old", []), f"{words} leaves"

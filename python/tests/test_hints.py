@@ -424,7 +424,7 @@ def test_text(text: bytes, word: "str | None", hints: list[str]) -> None:
 def test_every_hint() -> None:
     """Each hint is found by a text, or by a refusal of two files."""
     told = {hint for _, _, hints in TEXTS.values() for hint in hints}
-    told |= {*causes.cause_of(None, None, None, 36).hints}
+    told |= {*(causes.cause_of(None, None, None, 36)[1] or "").splitlines()}
     graph = b"p sp 2 0\n"
     with pytest.raises(dnorm.Refused) as found:
         dnorm.check(graph, b"p aux sp ss 2\ns 1\ns 7\n")
@@ -446,6 +446,9 @@ def test_odd_lines() -> None:
         start, end = error.mark or (0, 0)
         assert (error.mark is None, end - start) == (word == "", len(word)), line
         assert ((error.text or "")[start:end], (error.hint or "").split("\n")[:1]) == (word, first), line
+    # dnorm-explain may read another text than dnorm has refused.
+    _, hint, _ = causes.cause_of(lambda: iter([b"p max 2 3\na 1 2 \na 1 2 3\na 1 2 4\n"]), None, 4, 17)
+    assert (hint or "").endswith("The capacities from 1 to 2 sum to 3 before this line, and with it to 7"), hint
 
 
 def test_in_javascript(monkeypatch: pytest.MonkeyPatch) -> None:

@@ -25,6 +25,7 @@ from test_folders import module
 from test_manifests import ONES, ZEROS
 
 import dnorm
+from dnorm.records import Record
 
 pytestmark = READS
 SCHEMA = f"{ROOT}/python/records.json"
@@ -90,6 +91,7 @@ def test_of_collection(tested: str) -> None:
     same = dnorm.check_folder("coll")
     assert [plain(it.as_dict()) for it in same.records] == [plain(it) for it in found], "check_folder"
     assert {it: last[it] for it in same.counts} == same.counts
+    assert Record("x.ss", error=dnorm.Read("x.ss", "no\ngraph")).what == ": 31 Read (no graph)", "a line for each"
     html = same._repr_html_()
     assert html.startswith("<p>&lt;dnorm.Collection: ") and html.count("<tr>") == 12, html
 

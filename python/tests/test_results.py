@@ -26,7 +26,6 @@ from test_folders import LETTERS, X, ENVIRONMENT, module, on_terminal, prints
 from test_records import records_of
 
 import dnorm
-import dnorm.reader
 from dnorm.files import Text
 from dnorm.library import Status, held
 from dnorm.limits import Limit
@@ -344,7 +343,7 @@ def test_long_steps(monkeypatch: pytest.MonkeyPatch) -> None:
     assert took < 0.6, f"it takes {took} s"
     time.sleep(1)
     assert library.freed == 1, "it is freed once"
-    monkeypatch.setattr(dnorm.reader, "instance_by", lack_memory)
+    monkeypatch.setattr(dnorm.library.Held, "instance", lack_memory)
     assert told(lambda: dnorm.read(ROADS)) == "Memory: -: 30 Memory", "little memory for columns"
 
 

@@ -249,6 +249,17 @@ def test_wrong_words(explained: Callable[..., Answer], words: str, line: str) ->
     assert explained(words) == said(b"", f"dnorm: bad command line\n    {line}\n", 3)
 
 
+def test_unread_input(prefix: str) -> None:
+    """Standard input is neither read nor waited for if dnorm does not read it."""
+    write("u.gr", b"x\n")
+    words = [f"{prefix}/bin/dnorm-explain", "check", "u.gr"]
+    with subprocess.Popen(words, stdin=subprocess.PIPE, stderr=subprocess.DEVNULL) as process:
+        try:
+            assert process.wait(LIMIT) == 2
+        finally:
+            process.kill()
+
+
 def test_right_words(explained: Callable[..., Answer]) -> None:
     """dnorm-explain runs dnorm, explains what it refuses, and has its status."""
     assert explained("check t.gr") == said(b"accepted sp\nforms none\n")

@@ -252,6 +252,16 @@ def test_growing_chunks(scale: Scale) -> None:
     assert 100 < len(text_of("log").split()) < 500, "half as many chunks as of 2 lines"
 
 
+def test_disk(scale: Scale) -> None:
+    """Of sp, no chunk of the text is on the disk any more once ranges are made, as the help says."""
+    write("log", "")
+    listing = scale.stand_in(f'ls {scale.temporary}/* >> log; echo = >> log; exec {shlex.quote(scale.program)} "$@"')
+    text = b"p sp 9 9\n" + b"".join(b"a %d 1 1\n" % at for at in range(1, 10))
+    scale.run("--lines", "3", "--parts", "2", "--jobs", "1", "-", given=text, tested=listing)
+    last = text_of("log").split("=")[-2].split()
+    assert [it for it in last if re.fullmatch(r"chunk\.\d+", it)] == [] != [it for it in last if "range" in it], last
+
+
 @pytest.mark.parametrize("words", BAD_WORDS)
 def test_wrong_words(scale: Scale, words: str) -> None:
     found = run(scale.words(*words.split()))
@@ -281,15 +291,20 @@ def test_failing_part(scale: Scale, does: str, line: str) -> None:
     assert found == said(b"", f"canon-in-parts: a part failed: {line}\n", 4)
 
 
-@pytest.mark.parametrize("lacking", ["", "del os.waitid; "])
-def test_lost_status(scale: Scale, lacking: str) -> None:
-    """A process that ignores SIGCHLD gets no status of its children, and no text is taken for whole, also where the
-    system lacks a call."""
-    code = f"import os, sys; {lacking}sys.path.insert(0, {ROOT!r} + '/python/src'); "
-    command = [sys.executable, "-c", code + "from dnorm.parts.line import main; sys.exit(main())"]
-    own = ["bash", "-c", "trap '' CHLD; exec \"$@\"", "bash", *command, *scale.words("--lines", "3", "./-n.min")[1:]]
-    found = run(own)
-    assert (found.out, b"its status is lost" in found.err, found.status) == (b"", True, 4), found
+def test_lost_status(scale: Scale) -> None:
+    """Whoever ignores SIGCHLD gets no status of children, so the commands do not inherit that: a part that fails is not
+    taken for whole, and dnorm-explain has the status of dnorm."""
+    ignoring = ["bash", "-c", "trap '' CHLD; exec \"$@\"", "bash"]
+    fails = scale.stand_in("exit 9")
+    wanted = said(
+        b"",
+        b"canon-in-parts: a part failed: dnorm did not answer as it should (its status was 9, and it printed '')\n",
+        4,
+    )
+    assert run([*ignoring, *scale.words("--lines", "3", "./-n.min", tested=fails)]) == wanted
+    whole = run([scale.program, "canon", "-"], SUPPLIES)
+    assert run([*ignoring, *scale.words("--lines", "3", "./-n.min")]) == whole
+    assert run([*ignoring, f"{ROOT}/bin/dnorm-explain", "check", "missing"]).status == 4
 
 
 @pytest.mark.parametrize("number, text", SIGNALS)

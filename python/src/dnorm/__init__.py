@@ -21,7 +21,7 @@ compressed file is corrupt, no call returns an answer for it.
 
 from . import alone  # noqa: F401
 from .answers import Checked, Difference, Same
-from .calls import canon, canon_to, check, checksum, compare, write
+from .calls import canon, canon_to, check, checksum, compare, read, write
 from .columns import Column
 from .errors import DnormError, Endless, Memory, NoLibrary, Read, Refused, TimedOut, Write
 from .files import File, Readable, Target, Writable
@@ -32,7 +32,6 @@ from .lines import ArcLines
 from .manifests import Changes, Manifest, manifest_changes, read_manifest
 from .networks import from_networkx, from_scipy
 from .pairs import Differences, PairDifference, differences
-from .reader import read
 from .records import Contents, Range, Record
 from .refusals import REFUSALS
 

@@ -1,22 +1,49 @@
-"""The calls that check, canonicalise, compare and write texts. Each reads a text once."""
+"""The calls that read, check, canonicalise, compare and write texts. Each reads a text once."""
 
 from __future__ import annotations
 
 import contextlib
-import functools
 import hashlib
 import os
 import warnings
-from collections.abc import Callable, Iterator
-from typing import Optional, Union
+from collections.abc import Callable
+from typing import Literal, Optional, Union, overload
 
 from .answers import AnyDifference, Checked, Form, Same
 from .errors import Refused
-from .files import Bounds, File, Pieces, Sink, Target, Text, enough_memory, name_of, sink_of
-from .instances import Instance
-from .library import Held, held
+from .files import Bounds, File, Target, Text, enough_memory, name_of, sink_of
+from .instances import AnyInstance, Instance
+from .library import Held, LinesRead, held
 from .limits import Limit, at_once
+from .lines import ArcLines
 from .names import KINDS, parts_of
+
+
+@overload
+def read(file: File, form: Form = 1, *, lines: Literal[False] = False, timeout: Optional[float] = None) -> AnyInstance:
+    ...
+
+
+@overload
+def read(
+    file: File, form: Form = 1, *, lines: Literal[True], timeout: Optional[float] = None
+) -> tuple[AnyInstance, ArcLines]:
+    ...
+
+
+def read(
+    file: File, form: Form = 1, *, lines: bool = False, timeout: Optional[float] = None
+) -> Union[AnyInstance, tuple[AnyInstance, ArcLines]]:
+    """Returns the instance that a text poses: an `Sp`, `Max`, `Min`, `Ss`, `P2p` or `Co`. `form` is 1 or 2, and matters
+    only for `Min`. With `lines`, returns the instance and the arc lines of the text, which is read once."""
+    form, limit = checked_form(form), Limit(timeout, name_of(file))
+    with enough_memory(limit.name), contextlib.ExitStack() as stack:
+        of_lines = LinesRead() if lines else None
+        if of_lines:
+            stack.callback(of_lines.free)
+        found = stack.enter_context(held(Text(file, stack, limit), of_lines)).instance(form)
+        arc_lines = ArcLines(found.kind, *of_lines.end()) if of_lines else None
+    return (found, arc_lines) if arc_lines is not None else found
 
 
 def check(file: File, companion: Optional[File] = None, *, timeout: Optional[float] = None) -> Checked:
@@ -76,14 +103,10 @@ def write(instance: Instance, target: Target, *, timeout: Optional[float] = None
     if expected != instance.kind:
         warnings.warn(f"{name_of(target)}: its ending is that of {expected}, not of {instance.kind}", stacklevel=2)
 
-    def copied(sink: Sink) -> Iterator[bytes]:
-        for piece in instance.pieces():
-            sink.take(piece)
-            yield piece
-
     with sink_of(target) as sink, enough_memory(sink.name), contextlib.ExitStack() as stack:
-        text = Text(Pieces(sink.name, copied(sink)), stack, Limit(timeout, sink.name))
-        stack.enter_context(held(text))
+        text = Text(instance, stack, Limit(timeout, sink.name))
+        text.name = sink.name
+        stack.enter_context(held(text, sink))
 
 
 def canon_into(take: Callable[[bytes], object], file: File, form: Form, limit: Limit) -> None:
@@ -152,13 +175,11 @@ class SummedText(Text):
 def forms_of(kind: str, own: Optional[str], checksum: Callable[[Form], str]) -> tuple[Form, ...]:
     """Returns the forms in which a text is canonical, by its own checksum and those of its canonical texts."""
 
-    @functools.cache
-    def is_canonical(form: Form) -> bool:
+    forms: tuple[Form, ...] = (1, 2)
+    found: list[Form] = []
+    # Both forms are the same but for `min`.
+    for it in (forms if kind == "min" else forms[:1]) if own else ():
         # The canonical text may have too many lines.
         with contextlib.suppress(Refused):
-            return own == checksum(form)
-        return False
-
-    forms: tuple[Form, ...] = (1, 2)
-    # Both forms are the same but for `min`.
-    return tuple(it for it in forms if own and is_canonical(it if kind == "min" else 1))
+            found += [it] * (own == checksum(it))
+    return tuple(found) if kind == "min" or not found else forms

@@ -32,7 +32,7 @@ import os
 import re
 from collections.abc import Callable, Iterator
 from itertools import islice
-from typing import Any, NamedTuple, Optional, Union
+from typing import Any, Optional, Union
 
 from .names import ending_of
 
@@ -43,7 +43,7 @@ Opener = Callable[[], "Iterator[bytes]"]
 KEPT, SHOWN = 4096, 200
 BLANK = rb"[ \t\r]"
 PROBLEM = re.compile(rb"%s*p%s" % (BLANK, BLANK))
-COUNTED = re.compile(rb"^%s*[asqv](?:%s|$)" % (BLANK, BLANK), re.M)
+COUNTED = re.compile(rb"%s*[asqv](?:%s|$)" % (BLANK, BLANK))
 # The names of files that git-annex has.
 ANNEX = "annex/objects/"
 # How many bytes of a text hints look at.
@@ -58,13 +58,9 @@ FACTS = ("line", "head", "kind", "nodes", "declared", "rows", "word", "field", "
 Fact = Union[None, int, str, Callable[[], Optional[str]]]
 
 
-class Cause(NamedTuple):
-    """The refused line, with all its bytes made visible, or None for the end of a text; where its wrong word begins and
-    ends there, if that is known; and hints."""
-
-    text: str | None
-    mark: tuple[int, int] | None
-    hints: list[str]
+# The last members of a refusal: the refused line, with all its bytes made visible, or None for the end of a text; the
+# hints; and where its wrong word begins and ends there, if that is known.
+Cause = tuple[Optional[str], Optional[str], Optional[tuple[int, int]]]
 
 
 @functools.lru_cache(maxsize=None)
@@ -110,7 +106,7 @@ def cause_of(text: Opener | None, name: str | None, line: int | None, number: in
     """Returns the cause of a refusal, by its line, its number and its node, also if the text is not known. `name` is
     that of the file, if the bytes of the file are the text: hints have commands then."""
     if text is None:
-        return Cause(None, None, hints_of({**dict.fromkeys(FACTS), "number": number}))
+        return None, "\n".join(hints_of({**dict.fromkeys(FACTS), "number": number})) or None, None
     head = next(text(), b"")
     refused, problem = scanned(lines_of(text()), line)
     words = words_of(refused or b"")
@@ -121,7 +117,8 @@ def cause_of(text: Opener | None, name: str | None, line: int | None, number: in
     facts["file"] = name and quoted(name)
     facts |= {"rows": "; ".join(data()["rows"].get(kind, {}).values()), "word": None, "field": None}
     again = text
-    facts |= {"found": lambda: str(counted(again())), "naming": lambda: named_by(lines_of(again()), node)}
+    facts |= {"found": lambda: str(sum(1 for it in lines_of(again()) if COUNTED.match(it)))}
+    facts |= {"naming": lambda: named_by(lines_of(again()), node)}
     facts |= {"seen": lambda: seen(lines_of(again()), words), "sum": lambda: summed(lines_of(again()), line, words)}
     fields = fields_of(kind, words)
     at = place_of(number, words, fields, facts) if words else None
@@ -130,7 +127,8 @@ def cause_of(text: Opener | None, name: str | None, line: int | None, number: in
     # A line of numbers lacks its letter.
     row = [row_of([fields[0].encode(), *words] if number == 1 else words, fields)] if fields and number in ROWS else []
     shown = None if refused is None else visible(refused[:SHOWN])
-    return Cause(shown, None if at is None else mark_of(refused or b"", at), row + hints_of(facts))
+    hint = "\n".join(row + hints_of(facts)) or None
+    return shown, hint, None if at is None else mark_of(refused or b"", at)
 
 
 def words_of(line: bytes) -> list[bytes]:
@@ -225,47 +223,23 @@ def scanned(lines: Iterator[bytes], line: int | None) -> tuple[bytes | None, lis
             problem = [visible(one) for one in words_of(it[:SHOWN])]
         if at == line:
             return it, problem
-        if problem:
+        if problem and line is None:
             break
-    if line is None:
-        return None, problem
-    return next(islice(lines, line - at - 1, None), b"") if problem else b"", problem
-
-
-def counted(pieces: Iterator[bytes]) -> int:
-    """Returns the number of counted lines of a text."""
-    rest, count = b"", 0
-    for piece in pieces:
-        whole, end, rest = (rest + piece).rpartition(b"\n")
-        rest = rest[:KEPT]
-        count += len(COUNTED.findall(whole)) if end else 0
-    return count + len(COUNTED.findall(rest))
+    return None if line is None else b"", problem
 
 
 def hint_of_compressed(head: bytes, name: str) -> str:
     """Returns what the first bytes of a file mean that cannot be decompressed as its name says."""
     if head.startswith(PACKED.get(ending_of(name), b"\0")):
         return "The file is cut or damaged: get it again"
-    facts: dict[str, Fact] = {
-        "number": 31,
-        "head": plain(head),
-        "line": "",
-        "file": quoted(name),
-        "kind": "",
-        "word": "",
-    }
-    found = next((it for it in data()["file"] if holds(it, facts)), None)
-    if found and "run" in found:
-        return str(said({**found, "say": f"{found['say']}, and its name says another thing"}, facts))
-    if not found and re.fullmatch(rb"[\t\n\r -~]+", head):
+    facts: dict[str, Fact] = {**dict.fromkeys(FACTS, ""), "number": 31, "head": plain(head), "file": quoted(name)}
+    for it in data()["file"]:
+        if holds(it, facts):
+            more = ", and its name says another thing" if "run" in it else ""
+            return str(said({**it, "say": it["say"] + more}, facts))
+    if re.fullmatch(rb"[\t\n\r -~]+", head):
         return f"The file is not compressed: dnorm check - < {quoted(name)}"
-    return (
-        str(said(found, facts))
-        if found
-        else "The file is not compressed as its name says"
-        if head
-        else "The file is empty"
-    )
+    return "The file is not compressed as its name says" if head else "The file is empty"
 
 
 def hint_of_missing(path: str | os.PathLike[str] | os.PathLike[bytes]) -> str | None:

@@ -109,7 +109,3 @@ def least_and_greatest(numbers: Any) -> tuple[int, int]:
     if hasattr(numbers, "max"):
         return int(numbers.min()), int(numbers.max())
     return min(numbers), max(numbers)
-
-
-def are_same(left: Any, right: Any) -> bool:
-    return len(left) == len(right) and bool(memoryview(left) == memoryview(right))

@@ -7,7 +7,7 @@ from collections.abc import Callable, Iterator
 from importlib import import_module
 from typing import Any, BinaryIO
 
-from .names import COMPRESSIONS, ending_of, unknown_compression, unread_text
+from .names import packed_of, unknown_compression, unread_text
 
 # The number of bytes that are read and written at a time.
 SIZE = 1 << 16
@@ -83,20 +83,12 @@ PADS: dict[str, Callable[[int, bool], bool]] = {
 }
 
 
-def compression_of(name: str) -> str:
-    """Returns the ending by which the file of this name is decompressed, or nothing if it is plain. Raises OSError for
-    a compression that is not read."""
-    if reason := unknown_compression(name):
+def compression_of(name: str, is_written: bool = False) -> str:
+    """Returns the ending by which the file of this name is compressed, or nothing if it is plain. Raises OSError for a
+    compression that is not read or written."""
+    if reason := unknown_compression(name) or (unread_text(name) if is_written else ""):
         raise OSError(reason)
-    return ending_of(name) if ending_of(name) in COMPRESSIONS else ""
-
-
-def compressor_of(name: str) -> Callable[[BinaryIO], BinaryIO] | None:
-    """Returns how the file of this name is compressed, or None if it is plain. Raises OSError for a compression that is
-    not written."""
-    if reason := unknown_compression(name) or unread_text(name):
-        raise OSError(reason)
-    return COMPRESSORS.get(ending_of(name))
+    return packed_of(name)[1]
 
 
 def pieces(read: Reads, ending: str) -> Iterator[bytes]:

@@ -7,13 +7,15 @@ import contextlib
 import os
 import re
 import signal
+import sys
 import threading
 import time
 from collections.abc import Callable
-from typing import NoReturn
+from typing import IO, NoReturn, Optional
 
 from .errors import Write
-from .files import progress, reason_of, write_all
+from .files import reason_of, write_all
+from .limits import Timed
 
 # The signals that end a run.
 SIGNALS = (signal.SIGINT, signal.SIGTERM, signal.SIGHUP, signal.SIGQUIT)
@@ -37,7 +39,9 @@ def stop(number: int, _: object) -> NoReturn:
 
 
 def heed() -> None:
-    """Lets signals end the run. What is ignored, as by nohup, stays ignored."""
+    """Lets signals end the run. What is ignored, as by nohup, stays ignored, but for SIGCHLD: the status of a child is
+    lost then, and Popen takes it for 0."""
+    signal.signal(signal.SIGCHLD, signal.SIG_DFL)
     for it in SIGNALS:
         if signal.getsignal(it) != signal.SIG_IGN:
             signal.signal(it, stop)
@@ -89,7 +93,7 @@ class Console:
                 filled = BAR * self._done // self._total
                 drawn = f"[{'#' * filled}{'.' * (BAR - filled)}] {self._done} of {self._total}"
                 if self._size:
-                    drawn += f", {min(100, 100 * progress.so_far() // self._size)} %"
+                    drawn += f", {min(100, 100 * Timed.read_bytes // self._size)} %"
                 self._complain(f"\r{drawn.ljust(len(self._drawn))}")
                 self._drawn = drawn
 
@@ -134,6 +138,19 @@ def shown(text: str) -> str:
     if text.isprintable():
         return text
     return "".join(it if it.isprintable() else "".join(f"\\x{byte:02x}" for byte in os.fsencode(it)) for it in text)
+
+
+class Parser(argparse.ArgumentParser):
+    """A parser with a status of its own for a command line that is refused. It fails where it cannot print its help."""
+
+    # What is said of a file whose name is taken for an option.
+    more = ""
+
+    def error(self, message: str) -> NoReturn:
+        self.exit(3, f"{self.prog}: {message}{Parser.more} (--help tells more)\n")
+
+    def _print_message(self, message: str, file: Optional[IO[str]] = None) -> None:
+        (Console().complain if file is sys.stderr else Console().print)(message)
 
 
 def number(least: int) -> Callable[[str], int]:

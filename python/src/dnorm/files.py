@@ -3,17 +3,17 @@
 from __future__ import annotations
 
 import contextlib
+import functools
 import io
 import os
 import secrets
 import stat
 import tempfile
-import threading
-from collections.abc import Callable, Iterable, Iterator
-from typing import BinaryIO, Literal, NamedTuple, Optional, Protocol, Union
+from collections.abc import Callable, Iterator
+from typing import BinaryIO, NamedTuple, Optional, Protocol, Union
 
 from .causes import ANNEX, SHOWN, Cause, cause_of, hint_of_compressed, hint_of_missing
-from .compressed import SIZE, compression_of, compressor_of, pieces
+from .compressed import COMPRESSORS, SIZE, Reads, compression_of, pieces
 from .errors import DnormError, Memory, Read, Write
 from .instances import Instance
 from .limits import Limit, Timed
@@ -86,16 +86,6 @@ def write_all(file: BinaryIO, data: bytes) -> None:
         rest = rest[file.write(rest) :]
 
 
-class Pieces:
-    """A stream of these pieces, one after another."""
-
-    def __init__(self, name: str, pieces: Iterable[bytes]) -> None:
-        self.name, self._pieces = name, iter(pieces)
-
-    def read(self, _: int, /) -> bytes:
-        return next(self._pieces, b"")
-
-
 class Copied:
     """Standard input, of which a copy is kept as far as it is read: it can be read again from its beginning."""
 
@@ -126,12 +116,6 @@ def of_stream(stream: Readable) -> Iterator[bytes]:
         if not piece:
             return
         yield bytes(piece)
-
-
-def failed(error: Read) -> Iterator[bytes]:
-    """Raises this error as the first piece is asked for."""
-    raise error
-    yield
 
 
 class Bounds(NamedTuple):
@@ -182,44 +166,6 @@ def mark_of(file: BinaryIO) -> tuple[int, int] | None:
     return (found.st_size, found.st_mtime_ns) if stat.S_ISREG(found.st_mode) else None
 
 
-class Progress:
-    """How many bytes of files were read: those of the files that are closed, and of those that are open as far as they
-    are read."""
-
-    def __init__(self) -> None:
-        self._begin()
-        # A process that is forked has no thread that could release a lock.
-        os.register_at_fork(after_in_child=self._begin)
-
-    def _begin(self) -> None:
-        self._closed = 0
-        self._open: set[io.FileIO] = set()
-        self._lock = threading.Lock()
-
-    def begin(self, file: io.FileIO) -> None:
-        with self._lock:
-            self._open.add(file)
-
-    def end(self, file: io.FileIO) -> None:
-        with self._lock:
-            self._open.discard(file)
-            self._closed += place_in(file)
-
-    def so_far(self) -> int:
-        with self._lock:
-            return self._closed + sum(map(place_in, self._open))
-
-
-progress = Progress()
-
-
-def place_in(file: io.FileIO) -> int:
-    """Returns how far a file was read, or 0 if it has no places, as a pipe."""
-    with contextlib.suppress(OSError):
-        return file.tell()
-    return 0
-
-
 class Text:
     """A text that is read once, from its beginning: `is_file` says whether its bytes are those of an open file, and
     `is_compressed` whether a file is decompressed. The file of a path is opened once, within the bounds of what was
@@ -227,9 +173,12 @@ class Text:
 
     def __init__(self, file: File, stack: contextlib.ExitStack, limit: Limit, bounds: Bounds | None = None) -> None:
         self.file, self.name, self.limit = file, name_of(file), limit
-        self.size = 0
+        self.size, self.is_file = 0, False
+        self._pieces: Iterator[bytes] = iter(())
         self._opened: io.FileIO | None = None
         self._mark: tuple[int, int] | None = None
+        # What the next piece raises. An earlier text is judged first.
+        self._error: Read | None = None
         try:
             if isinstance(file, (str, os.PathLike)):
                 if isinstance(file, str) and "\n" in file and not os.path.lexists(file):
@@ -237,26 +186,21 @@ class Text:
                 with failing(Read, self.name):
                     self._opened = stack.enter_context(opened(file, limit, bounds))
                     self._mark = mark_of(self._opened)
-                progress.begin(self._opened)
-                stack.callback(progress.end, self._opened)
-            self.text = self._begun()
+            self._pieces = self._begun()
         except Read as error:
             if isinstance(file, (str, os.PathLike)):
                 error = Read(error.name, error.reason, error.hint or hint_of_missing(file))
-            # An earlier text is judged first.
-            self.text = failed(error)
-        self.is_file = isinstance(self.text, io.FileIO)
+            self._error = error
         self.is_compressed = self._opened is not None and not self.is_file
-        self._pieces = self._all(self.text)
-        self._is_stopped = False
 
-    def _begun(self) -> io.FileIO | Iterator[bytes]:
-        """Returns the file whose bytes are the text, or the pieces of the text."""
+    def _begun(self) -> Iterator[bytes]:
+        """Begins the text, and returns its pieces."""
         file = self.file
         if self._opened:
             with failing(Read, self.name):
                 ending = compression_of(self.name)
-            return self._decompressed(self._opened, ending) if ending else self._opened
+            self.is_file, timed = not ending, Timed(self._opened, self.limit)
+            return self._decompressed(self._opened, timed.read, ending) if ending else of_stream(timed)
         if isinstance(file, (bytes, bytearray, memoryview)):
             data = memoryview(file).cast("B")
             return (bytes(data[at : at + SIZE]) for at in range(0, len(data), SIZE))
@@ -267,28 +211,25 @@ class Text:
             raise TypeError(f"a file is {kinds}, and not {type(file).__name__}")
         return of_stream(file)
 
-    def _decompressed(self, file: io.FileIO, ending: str) -> Iterator[bytes]:
+    def _decompressed(self, file: io.FileIO, read: Reads, ending: str) -> Iterator[bytes]:
         try:
-            yield from pieces(Timed(file, self.limit).read, ending)
+            yield from pieces(read, ending)
         except (OSError, EOFError) as error:
             head = os.pread(file.fileno(), SHOWN, 0) if self._mark else b""
             hint = hint_of_compressed(head, self.name) if self._mark else None
             raise Read(self.name, reason_of(error), hint) from error
 
     def next_piece(self) -> bytes | None:
-        if self._is_stopped:
-            raise Read(self.name, "it is no longer wanted")
+        if self._error:
+            raise self._error
         with failing(Read, self.name):
             piece = next(self._pieces, None)
         self.size += len(piece or b"")
         return piece
 
-    def _all(self, text: io.FileIO | Iterator[bytes]) -> Iterator[bytes]:
-        return of_stream(Timed(text, self.limit)) if isinstance(text, io.FileIO) else text
-
     def stop(self) -> None:
         """Lets reading the text fail from the next piece on, for a thread whose answer is no longer wanted."""
-        self._is_stopped = True
+        self._error = Read(self.name, "it is no longer wanted")
 
     def stay_same(self) -> None:
         """Raises Read if the file of the text was written since it was opened."""
@@ -309,7 +250,7 @@ class Text:
             return self.file.again()
         if self._opened:
             self._opened.seek(0)
-        return self._all(self._begun())
+        return self._begun()
 
 
 class Sink:
@@ -322,61 +263,44 @@ class Sink:
 @contextlib.contextmanager
 def sink_of(target: Target) -> Iterator[Sink]:
     """Opens a target. A path has the file only if nothing is raised before the end, and then all of it."""
-    name = name_of(target)
-    if not isinstance(target, (str, os.PathLike)):
-        with stream_sink(target, name) as sink:
-            yield sink
-        return
-    with failing(Write, name):
-        start = compressor_of(name)
-    with file_at(name) as file:
-        if not start:
-            with stream_sink(file, name) as sink:
-                yield sink
-            return
-        with failing(Write, name):
-            compressed = start(file)
-        with closed(compressed, name):
-            yield Sink(name, failing(Write, name)(compressed.write))
+    name, stream, start = name_of(target), target, None
+    with contextlib.ExitStack() as stack:
+        if isinstance(stream, (str, os.PathLike)):
+            with failing(Write, name):
+                start = COMPRESSORS.get(compression_of(name, is_written=True))
+            stream = stack.enter_context(file_at(name))
+            stream = stack.enter_context(written_file(functools.partial(start, stream), name)) if start else stream
+        to = stream
+
+        @failing(Write, name)
+        def take(piece: bytes) -> None:
+            while piece:
+                count = to.write(piece)
+                if count is None and isinstance(to, io.RawIOBase):
+                    raise BlockingIOError("the stream takes no data now, and does not wait")
+                # What compresses takes all.
+                piece = piece[len(piece) if count is None or start else count :]
+
+        yield Sink(name, take)
+        if to is target:
+            with failing(Write, name):
+                getattr(to, "flush", lambda: None)()
 
 
 def file_at(name: str) -> contextlib.AbstractContextManager[BinaryIO]:
     """Opens the file of a path to be written. A device or a pipe cannot be replaced, so it is written itself."""
     is_replaced = os.path.isfile(name) or not os.path.exists(name)
-    return whole_file(name) if is_replaced else written_file(name, name, "wb")
+    return whole_file(name) if is_replaced else written_file(lambda: open(name, "wb"), name)
 
 
 @contextlib.contextmanager
-def stream_sink(stream: Writable, name: str) -> Iterator[Sink]:
-    """Writes to a stream, and flushes it at the end, if it has a flush()."""
-
-    @failing(Write, name)
-    def take(piece: bytes) -> None:
-        while piece:
-            count = stream.write(piece)
-            if count is None and isinstance(stream, io.RawIOBase):
-                raise BlockingIOError("the stream takes no data now, and does not wait")
-            piece = piece[len(piece) if count is None else count :]
-
-    yield Sink(name, take)
+def written_file(start: Callable[[], BinaryIO], name: str) -> Iterator[BinaryIO]:
+    """Opens a file to be written, and closes it at the end. Raises Write if that fails, unless something else was
+    raised before; errors call the file by this name."""
     with failing(Write, name):
-        getattr(stream, "flush", lambda: None)()
-
-
-@contextlib.contextmanager
-def written_file(path: str, name: str, mode: Literal["wb", "xb"]) -> Iterator[BinaryIO]:
-    """Opens a file to be written. Errors call it by this name."""
-    with failing(Write, name):
-        file = open(path, mode)
-    with closed(file, name):
-        yield file
-
-
-@contextlib.contextmanager
-def closed(file: BinaryIO, name: str) -> Iterator[None]:
-    """Closes a file that was written. Raises Write if that fails, unless something else was raised before."""
+        file = start()
     try:
-        yield
+        yield file
     except BaseException:
         with contextlib.suppress(Exception):
             file.close()
@@ -392,7 +316,7 @@ def whole_file(name: str) -> Iterator[BinaryIO]:
     path = real(name)
     new = os.path.join(os.path.dirname(path), f".dnorm-{secrets.token_hex(8)}")
     try:
-        with written_file(new, name, "xb") as file:
+        with written_file(lambda: open(new, "xb"), name) as file:
             with failing(Write, name):
                 if os.path.exists(path):
                     os.fchmod(file.fileno(), stat.S_IMODE(os.stat(path).st_mode))

@@ -6,7 +6,7 @@ import os
 from collections.abc import Iterable, Sequence
 from concurrent.futures import ThreadPoolExecutor
 from dataclasses import dataclass
-from typing import NamedTuple, Optional, TypeVar, Union
+from typing import Optional, TypeVar, Union
 
 from .answers import Form, table
 from .calls import checked_form
@@ -29,19 +29,6 @@ Result = TypeVar("Result")
 Files = dict[str, Optional[DnormError]]
 
 
-class Found(NamedTuple):
-    """The files that paths name, each with the error of a path that cannot be searched; the other files below these
-    paths, each with the reason why it is not looked at, both in the order of the names; how many files and folders were
-    left out, since a pattern excludes them; within which bounds the files are opened; and the patterns that exclude
-    nothing."""
-
-    files: Files
-    others: dict[str, str]
-    excluded: int = 0
-    bounds: Optional[Bounds] = None
-    unused: tuple[str, ...] = ()
-
-
 def find(
     paths: Iterable[str],
     endings: Sequence[str],
@@ -55,23 +42,23 @@ def find(
     cannot be read, or that has no such file, has an error, and so has a text behind a compression that is not read, and
     what is no file, as a pipe. Links lead to files below these folders, unless they are followed. Within a folder, the
     paths are those of files that were found there."""
-    search, folders, named = Search(endings, excluded), list[str](), set[str]()
+    found, folders, named = Found(endings, excluded), list[str](), set[str]()
     for path in paths:
         if within is not None:
-            if not search.leaves_out(path):
-                search.take(path)
+            if not found.leaves_out(path):
+                found.take(path)
         elif path != "-" and os.path.isdir(path):
             missing = Read(path, f"no file in it ends in {' '.join(endings)}; --ending names other endings")
-            search.files.update(search.below(path) or {path: missing})
+            found.files.update(found.below(path) or {path: missing})
             folders.append(real(path))
         else:
-            search.files[path] = None
+            found.files[path] = None
             named.add(path)
     places = [real(within)] if within is not None else folders
-    others = {name: reason for name, reason in search.others.items() if name not in search.files}
-    bounds = Bounds(("/",) if follow or not places else tuple(places), frozenset(named), is_search=within is None)
-    unused = tuple(it for it in excluded if it not in search.used)
-    return Found(in_order_of_names(search.files), in_order_of_names(others), search.left_out, bounds, unused)
+    found.bounds = Bounds(("/",) if follow or not places else tuple(places), frozenset(named), is_search=within is None)
+    others = {name: reason for name, reason in found.others.items() if name not in found.files}
+    found.files, found.others = in_order_of_names(found.files), in_order_of_names(others)
+    return found
 
 
 def error_of(path: str, endings: Sequence[str]) -> DnormError | None:
@@ -88,13 +75,16 @@ def in_order_of_names(found: dict[str, Result]) -> dict[str, Result]:
     return dict(sorted(found.items(), key=lambda it: os.fsencode(it[0])))
 
 
-class Search:
-    """What a search finds, as `Found` has it."""
+class Found:
+    """What paths name: the `files`, each with the error of a path that cannot be searched; the `others` below these
+    paths, each with the reason why it is not looked at, both in the order of the names; how many files and folders were
+    `excluded`, by which of the `patterns`; and within which `bounds` the files are opened."""
 
-    def __init__(self, endings: Sequence[str], excluded: Sequence[str]) -> None:
-        self.endings, self.excluded, self.left_out, self.used = endings, excluded, 0, set[str]()
+    def __init__(self, endings: Sequence[str], patterns: Sequence[str]) -> None:
+        self.endings, self.patterns, self.excluded, self.used = endings, patterns, 0, set[str]()
         self.files: Files = {}
         self.others: dict[str, str] = {}
+        self.bounds: Optional[Bounds] = None
 
     def below(self, folder: str) -> Files:
         """Returns the files below a folder, and keeps the others. Links to files count as files, even if they lead
@@ -123,14 +113,14 @@ class Search:
         """Whether a file or folder of this name is neither excluded nor of version control."""
         if name in HIDDEN or name == CVS and os.path.isfile(os.path.join(at, name, CVS_LIST)):
             return False
-        path = os.path.relpath(os.path.join(at, name), folder) if self.excluded else ""
+        path = os.path.relpath(os.path.join(at, name), folder) if self.patterns else ""
         return not self.leaves_out(path)
 
     def leaves_out(self, path: str) -> bool:
         """Whether a pattern excludes a path, which is then counted."""
-        pattern = is_excluded(path, self.excluded)
+        pattern = is_excluded(path, self.patterns)
         self.used |= {pattern or ""}
-        self.left_out += pattern is not None
+        self.excluded += pattern is not None
         return pattern is not None
 
 

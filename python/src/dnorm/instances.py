@@ -5,13 +5,13 @@ from __future__ import annotations
 import importlib
 import operator
 from array import array
-from collections.abc import Iterator, Mapping
+from collections.abc import Callable, Iterator, Mapping
 from dataclasses import dataclass, fields
 from itertools import accumulate, islice
 from typing import TYPE_CHECKING, Any, ClassVar, Generic, Literal, NamedTuple, NoReturn, TypeVar, Union, overload
 
 from .answers import table
-from .columns import LEAST, MOST, Column, Own, are_same, column, column_of, frozen, least_and_greatest
+from .columns import LEAST, MOST, Column, Own, column, column_of, frozen, least_and_greatest
 
 if TYPE_CHECKING:
     from networkx import DiGraph, MultiDiGraph
@@ -38,11 +38,9 @@ class Rows(Generic[Row]):
     """What the rows of an instance are."""
 
     if TYPE_CHECKING:
+        rows: Callable[[], Iterator[Row]]
 
         def __iter__(self) -> Iterator[Row]:
-            ...
-
-        def rows(self) -> Iterator[Row]:
             ...
 
 
@@ -50,9 +48,7 @@ class Arcs(Rows[Row]):
     """What the arcs of a graph are, which are its rows."""
 
     if TYPE_CHECKING:
-
-        def arcs(self) -> Iterator[Row]:
-            ...
+        arcs: Callable[[], Iterator[Row]]
 
 
 class Flows(dict[int, int]):
@@ -80,11 +76,10 @@ class Instance:
     def __post_init__(self) -> None:
         names = column_names(type(self))
         for it in fields(self):
-            if str(it.type) == "int":
-                object.__setattr__(self, it.name, whole(it.name, getattr(self, it.name)))
-        for name in names:
-            # The class is frozen to its users.
-            object.__setattr__(self, name, frozen(name, getattr(self, name)))
+            if str(it.type) in ("int", "Column"):
+                found = (whole if str(it.type) == "int" else frozen)(it.name, getattr(self, it.name))
+                # The class is frozen to its users.
+                object.__setattr__(self, it.name, found)
         for name, count in zip(names, map(len, self._columns())):
             if count != len(self):
                 raise ValueError(f"{names[0]} and {name} have {len(self)} and {count} numbers")
@@ -95,7 +90,7 @@ class Instance:
     def __eq__(self, other: object) -> bool:
         if not isinstance(other, Instance) or type(other) is not type(self):
             return NotImplemented
-        if not all(map(are_same, self._columns(), other._columns())):
+        if not all(memoryview(one) == memoryview(it) for one, it in zip(self._columns(), other._columns())):
             return False
         names = {it.name for it in fields(self)}.difference(column_names(type(self)))
         return all(getattr(self, it) == getattr(other, it) for it in names)
@@ -328,14 +323,12 @@ class Min(Arcs[tuple[int, int, int, int, int]], Graph):
         graph: MultiNetwork = importlib.import_module("networkx").MultiDiGraph(cost=fixed)
         demands = dict.fromkeys(range(1, self.nodes + 1), 0)
         demands.update((node, -flow) for node, flow in self.supplies.items())
-        for tail, head, low, _, _ in self.arcs():
+        graph.add_nodes_from(demands)
+        for tail, head, low, cap, cost in self.arcs():
             demands[tail] += low
             demands[head] -= low
-        graph.add_nodes_from((node, {"demand": demand}) for node, demand in demands.items())
-        graph.add_edges_from(
-            (tail, head, {"weight": cost, "capacity": cap - low, "low": low})
-            for tail, head, low, cap, cost in self.arcs()
-        )
+            graph.add_edge(tail, head, weight=cost, capacity=cap - low, low=low)
+        importlib.import_module("networkx").set_node_attributes(graph, demands, "demand")
         return graph
 
     def to_scipy(self) -> tuple[csr_matrix, Column]:

@@ -16,11 +16,10 @@ from itertools import starmap
 from typing import Any, cast
 
 from .answers import AnyDifference, Difference, Same
-from .causes import Cause
-from .columns import column
+from .columns import Own, column
 from .errors import DnormError, Endless, Memory, NoLibrary, Refused
-from .files import Text
-from .instances import CLASSES, column_names
+from .files import Sink, Text
+from .instances import CLASSES, AnyInstance, column_names
 from .limits import Lease
 from .program import page, place
 from .refusals import REFUSALS
@@ -168,10 +167,6 @@ class Held:
             found += sum(map(operator.eq, some[::5], some[1::5]))
         return found
 
-    def items(self) -> list[tuple[int, int]]:
-        """Returns the first two numbers of what a graph has beside its arcs."""
-        return list(zip(*(it.tolist() for it in self._items(2))))
-
     def _items(self, width: int) -> list[Any]:
         """Returns the first columns of the items, which have three numbers each."""
         return self._copied(functools.partial(self._library.items, self._handle), self._item_count, 3, width)
@@ -220,6 +215,19 @@ class Held:
         for piece in self.canonical(form):
             found.update(piece)
         return found.hexdigest()
+
+    def instance(self, form: int) -> AnyInstance:
+        """Returns the instance, which keeps the columns."""
+        values: dict[str, Any] = dict(zip(column_names(CLASSES[self.kind]), map(Own, self.columns(form))))
+        if self.kind in GRAPHS:
+            values["nodes"] = self.nodes
+            # What a graph has beside its arcs.
+            items = [*zip(*(it.tolist() for it in self._items(2)))]
+        if self.kind == "min":
+            values["supplies"] = dict(items)
+        if self.kind == "max":
+            values["source"], values["sink"] = items[0]
+        return cast(AnyInstance, CLASSES[self.kind](**values))
 
     def first_difference(self, right: Held) -> Same | AnyDifference:
         """Returns where this instance and another one first differ."""
@@ -286,8 +294,9 @@ class LinesRead:
 
 
 @contextlib.contextmanager
-def held(text: Text, lines: LinesRead | None = None) -> Iterator[Held]:
-    """Reads a text, and its arc lines if they are wanted, and frees its instance at the end."""
+def held(text: Text, lines: LinesRead | Sink | None = None) -> Iterator[Held]:
+    """Reads a text, of whose pieces its arc lines or a copy are made if they are wanted, and frees its instance at the
+    end."""
     found, handle = library(), Handle()
     address = ctypes.byref(handle)
     lease = Lease(lambda: found.free(address))
@@ -305,7 +314,7 @@ def held(text: Text, lines: LinesRead | None = None) -> Iterator[Held]:
         lease.end()
 
 
-def fed(found: Library, address: Any, text: Text, lines: LinesRead | None) -> Any:
+def fed(found: Library, address: Any, text: Text, lines: LinesRead | Sink | None) -> Any:
     """Feeds a text to a reader, to its end or to its first fault, and returns the status of the last piece. A
     compressed file is read to its end, since only the end tells whether its lines are right."""
     status, size = Status(), 0
@@ -332,6 +341,4 @@ def error_of(status: Any, text: Text) -> DnormError:
 
 def refused(text: Text, line: int | None, number: int, node: int | None = None) -> Refused:
     """Returns a refusal of a text, with its cause if that can be found."""
-    found = text.cause(line, number, node) or Cause(None, None, [])
-    hint = "\n".join(found.hints) or None
-    return Refused(text.name, line, number, REFUSALS[number][0], node, found.text, hint, found.mark)
+    return Refused(text.name, line, number, REFUSALS[number][0], node, *(text.cause(line, number, node) or ()))

@@ -127,7 +127,10 @@ def at_once(one: Callable[[], Result], other: Callable[[], Other], end: Callable
 
 
 class Timed:
-    """A file, pipe or device that is read within a limit."""
+    """A file, pipe or device that is read within a limit. `read_bytes` counts those of all files, about: it has no
+    lock."""
+
+    read_bytes = 0
 
     def __init__(self, file: BinaryIO, limit: Limit) -> None:
         self._file, self._limit = file, limit
@@ -142,4 +145,6 @@ class Timed:
 
     def read(self, size: int, /) -> bytes:
         self.wait()
-        return self._file.read(size)
+        data = self._file.read(size)
+        Timed.read_bytes += len(data or b"")
+        return data

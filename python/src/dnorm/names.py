@@ -3,7 +3,6 @@ capitals."""
 
 from __future__ import annotations
 
-import functools
 import os
 import re
 from collections.abc import Iterable, Sequence
@@ -37,15 +36,9 @@ def parts_of(name: str) -> tuple[str, str]:
     return plain[: len(plain) - len(ending)], ending
 
 
-@functools.lru_cache(maxsize=None)
-def ends_of(endings: tuple[str, ...]) -> tuple[str, ...]:
-    """Returns the ends of the names of texts with these endings, compressed or not."""
-    return tuple(f"{it.lower()}{more}" for it in endings for more in ("", *COMPRESSIONS))
-
-
 def is_text(name: str, endings: Sequence[str] = ENDINGS) -> bool:
     """Whether a name ends like that of a text, which may be compressed."""
-    return name.lower().endswith(ends_of(tuple(endings)))
+    return name.lower().endswith(tuple(f"{it.lower()}{more}" for it in endings for more in ("", *COMPRESSIONS)))
 
 
 def packed_of(name: str) -> tuple[str, str]:

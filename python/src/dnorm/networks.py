@@ -3,7 +3,7 @@
 from __future__ import annotations
 
 from array import array
-from collections.abc import Callable, Iterable
+from collections.abc import Callable
 from typing import Any, Literal, Optional, TypeVar, Union, overload
 
 from .columns import numbers_of
@@ -77,18 +77,31 @@ def from_networkx(
         raise TypeError(f"from_networkx makes Sp, Max and Min, and not {made.__name__}")
     ends = {"source": source, "sink": sink}
     check_terminals(made, ends)
-    values: dict[str, Any] = {"nodes": count_of_nodes(graph)}
+    if not graph.is_directed():
+        raise ValueError("the graph is undirected: graph.to_directed() has an arc in each direction")
+    if {*graph} != {*range(1, len(graph) + 1)}:
+        raise ValueError(f"the {len(graph)} nodes are not the numbers 1 to {len(graph)}")
     edges = list(graph.edges(data=True))
-    values.update(tails=[tail for tail, _, _ in edges], heads=[head for _, head, _ in edges])
+    tails, heads = ([it[at] for it in edges] for at in (0, 1))
+    values: dict[str, Any] = {"nodes": len(graph), "tails": tails, "heads": heads}
     if made is Sp:
         return from_arrays(Sp, lengths=weights_of(edges, weight, 1), **values)
     capacities = of_edges(capacity, edges, attributes_of(edges, capacity))
     if made is Max:
-        return from_arrays(Max, capacities=capacities, **terminals_of(graph, ends), **values)
+        missing = [it for it, node in ends.items() if node is None and it not in graph.graph]
+        if missing:
+            raise ValueError(f"the graph has no attribute {' and no '.join(missing)}, and the call no such argument")
+        terminals = {it: graph.graph[it] if node is None else node for it, node in ends.items()}
+        return from_arrays(Max, capacities=capacities, **terminals, **values)
     lows = of_edges(low, edges, [data.get(low, 0) for _, _, data in edges])
     caps = of_edges(f"{low} with the {capacity}", edges, [it + more for it, more in zip(lows, capacities)])
-    values.update(supplies=supplies_of(graph, lows, demand), costs=weights_of(edges, weight, 0))
-    return from_arrays(Min, lows=lows, caps=caps, **values)
+    # The flows of the nodes before the lower bounds were sent.
+    flows = {node: -whole(f"the {demand} of node {node}", it) for node, it in graph.nodes(data=demand, default=0)}
+    for (tail, head, _), it in zip(edges, lows):
+        flows[tail] += it
+        flows[head] -= it
+    supplies = {node: flow for node, flow in sorted(flows.items()) if flow}
+    return from_arrays(Min, lows=lows, caps=caps, supplies=supplies, costs=weights_of(edges, weight, 0), **values)
 
 
 def check_terminals(made: type[Graph], ends: dict[str, Optional[int]]) -> None:
@@ -96,16 +109,6 @@ def check_terminals(made: type[Graph], ends: dict[str, Optional[int]]) -> None:
     given = [name for name, it in ends.items() if it is not None]
     if given and made is not Max:
         raise TypeError(f"{made.__name__} takes no {' and no '.join(given)}")
-
-
-def count_of_nodes(graph: Any) -> int:
-    """Returns how many nodes a directed graph has, if these are the numbers from 1 on."""
-    if not graph.is_directed():
-        raise ValueError("the graph is undirected: graph.to_directed() has an arc in each direction")
-    count = len(graph)
-    if set(graph) != set(range(1, count + 1)):
-        raise ValueError(f"the {count} nodes are not the numbers 1 to {count}")
-    return count
 
 
 Edges = list[tuple[Any, Any, dict[str, Any]]]
@@ -133,23 +136,6 @@ def attributes_of(edges: Edges, name: str, hint: str = "") -> list[Any]:
         if name not in data:
             raise ValueError(f"the edge from {tail} to {head} has no {name}{hint}")
     return [data[name] for _, _, data in edges]
-
-
-def terminals_of(graph: Any, ends: dict[str, Optional[int]]) -> dict[str, int]:
-    """Returns the source and the sink: those given, or else those of the graph."""
-    missing = [it for it, node in ends.items() if node is None and it not in graph.graph]
-    if missing:
-        raise ValueError(f"the graph has no attribute {' and no '.join(missing)}, and the call no such argument")
-    return {it: graph.graph[it] if node is None else node for it, node in ends.items()}
-
-
-def supplies_of(graph: Any, lows: Iterable[int], demand: str) -> dict[int, int]:
-    """Returns the flows of the nodes before the lower bounds were sent, without those that are 0."""
-    flows = {node: -whole(f"the {demand} of node {node}", it) for node, it in graph.nodes(data=demand, default=0)}
-    for (tail, head), low in zip(graph.edges(), lows):
-        flows[tail] += low
-        flows[head] -= low
-    return {node: flows[node] for node in sorted(flows) if flows[node]}
 
 
 @overload

@@ -18,7 +18,6 @@ from .files import File, enough_memory, name_of
 from .instances import AnyInstance, Graph, Instance, Min, whole
 from .library import GRAPHS
 from .limits import Limit
-from .reader import instance_by
 
 # The columns of each kind: those of the key, and those of the values with their names.
 KEYS = {"min": ("tails", "heads"), "max": ("tails", "heads"), "sp": ("tails", "heads"), "co": ("ids",)}
@@ -125,8 +124,11 @@ def paired(left: Instance, right: Instance, limit: int | None, time: Limit) -> d
             if limit is None or len(shared) < limit:
                 shared.append(PairDifference(key, one, other))
             counts["different"] += 1
-            fields[differing_fields(left.kind, one, other)] += 1
-    turned = reversed_pairs(alone) if isinstance(left, Graph) else ()
+            named = zip(VALUES[left.kind], zip(*one), zip(*other))
+            fields["arcs" if len(one) != len(other) else " ".join(name for name, a, b in named if a != b)] += 1
+    # Those whose opposite with the same arcs only the right text has.
+    others = {it.key[::-1]: it.right for it in alone if not it.left and isinstance(left, Graph)}
+    turned = tuple(it.key for it in alone if it.left and others.get(it.key) == it.left)
     pairs = tuple((shared + alone)[:limit])
     return {**counts, "fields": tuple(fields.most_common()), "reversed": turned, "pairs": pairs}
 
@@ -173,20 +175,6 @@ def merged(left: Iterator[tuple[Key, Arcs]], right: Iterator[tuple[Key, Arcs]]) 
         if theirs and theirs[0] == key:
             (_, other), theirs = theirs, next(right, None)
         yield key, one, other
-
-
-def differing_fields(kind: str, left: Arcs, right: Arcs) -> str:
-    """Returns the names of the fields in which the arcs of a pair differ, or `arcs` if their numbers do."""
-    if len(left) != len(right):
-        return "arcs"
-    fields = zip(VALUES[kind], zip(*left), zip(*right))
-    return " ".join([name for name, one, other in fields if one != other])
-
-
-def reversed_pairs(differing: list[PairDifference]) -> tuple[Key, ...]:
-    """Returns the pairs that only the left text has, and whose opposite with the same arcs only the right one has."""
-    only_right = {it.key: it.right for it in differing if not it.left}
-    return tuple(it.key for it in differing if not it.right and only_right.get(it.key[::-1]) == it.left)
 
 
 @dataclass(frozen=True, repr=False)
@@ -242,11 +230,11 @@ def differences(
     with enough_memory(time.name), contextlib.ExitStack() as later, contextlib.ExitStack() as sooner:
         one, other = both_read((left, right), (sooner, later), time)
         first, both = one.first_difference(other), one.pairs if one.kind in GRAPHS else one.lines
-        ours = theirs = instance_by(one, 2)
+        ours = theirs = one.instance(2)
         # The library keeps the left text no longer than it is needed.
         sooner.close()
         if not first:
-            theirs = instance_by(other, 2)
+            theirs = other.instance(2)
         later.close()
         same = Differences(first, ours, theirs, ours.kind, both=both)
         found = same if first else summary(first, ours, theirs, limit, time)

@@ -23,7 +23,6 @@ from .library import GRAPHS, Held, held
 from .limits import Limit
 from .names import COMPANIONS, KINDS, parts_of, stem_of
 from .pairs import VALUES
-from .reader import instance_by
 
 # The ends of the names of graphs that have companions.
 WITH_COMPANIONS = (".gr", ".sp")
@@ -227,7 +226,7 @@ class Reading:
                     loops = it.loops(self.form)
                     found = found._replace(nodes=it.nodes, merged=it.lines - it.pairs, self_loops=loops)
             if self.tells == "contents":
-                found = found._replace(contents=contents_of(instance_by(it, self.form)))
+                found = found._replace(contents=contents_of(it.instance(self.form)))
             if graphs is not None:
                 fits, others = self._fitting(graphs, it, limit)
                 found = found._replace(graphs=fits, not_accepted=others)

@@ -4,6 +4,5 @@ import json
 import os
 
 with open(os.path.join(os.path.dirname(__file__), "refusals.json"), encoding="utf-8") as _table:
-    REFUSALS: "dict[int, tuple[str, str]]" = {
-        it["number"]: (it["name"], it["sentence"]) for it in json.load(_table)["refusals"]
-    }
+    _rows = json.load(_table)["refusals"]
+REFUSALS: "dict[int, tuple[str, str]]" = {it["number"]: (it["name"], it["sentence"]) for it in _rows}

@@ -4,13 +4,13 @@ from __future__ import annotations
 
 import contextlib
 import difflib
+import functools
 import os
 import re
 import signal
 import subprocess
 import sys
 from collections.abc import Iterable, Iterator, Sequence
-from typing import BinaryIO
 
 from ..causes import Opener, cause_of, quoted
 from ..console import for_terminal, is_open
@@ -39,10 +39,8 @@ standard input is a terminal.
 REFUSED_LINE = re.compile(r"(?P<name>.*):(?P<place>[0-9]+|end): (?P<number>[12]?[0-9]) (?P<word>[A-Za-z]+)", re.S)
 OTHER_LINE = re.compile(r"(?P<name>.*): (?P<number>3[0-6]) (?P<word>[A-Za-z]+)(?: (?P<node>[0-9]+))?", re.S)
 WRONG = ("dnorm: bad command line", "dnorm: standard input named twice")
-# The options of each command with the number of its files, and the values that options take.
-COMMANDS: dict[str, tuple[list[str], int]] = {
-    "canon": (["--form"], 1), "check": (["--with"], 1), "compare": ([], 2), "show": ([], 1), "help": ([], 0),
-}  # fmt: skip
+# The option of each command, or none, with the number of its files, and the values that options take.
+COMMANDS = {"canon": ("--form", 1), "check": ("--with", 1), "compare": ("", 2), "show": ("", 1), "help": ("", 0)}
 VALUES: dict[str, tuple[str, ...]] = {"--form": ("1", "2"), "--with": ()}
 # What other programs call these commands.
 OTHER_NAMES = {"diff": "compare", "cmp": "compare", "validate": "check", "verify": "check", "lint": "check"}
@@ -93,16 +91,12 @@ def explain_run(words: Sequence[str]) -> int:
                 process.stdin.flush()
     _, said = process.communicate()
     signal.signal(signal.SIGPIPE, signal.SIG_DFL)
-    for told in lines_of(os.fsdecode(said)):
+    whole = os.fsdecode(said).removesuffix("\n")
+    found = REFUSED_LINE.fullmatch(whole) or OTHER_LINE.fullmatch(whole)
+    # A name may have LF, and then all is one line.
+    for told in [whole] if found and os.path.lexists(found[1]) else whole.splitlines():
         say(2, told, wrong_words(words) if told == WRONG[0] else causes_of(told, copy))
     return process.returncode if process.returncode >= 0 else 128 - process.returncode
-
-
-def lines_of(said: str) -> list[str]:
-    """Returns the lines on standard error of a run, or the one that names a file with LF in its name."""
-    whole = said.removesuffix("\n")
-    found = REFUSED_LINE.fullmatch(whole) or OTHER_LINE.fullmatch(whole)
-    return [whole] if found and os.path.lexists(found[1]) else said.splitlines()
 
 
 def status_of(told: str) -> int:
@@ -128,36 +122,24 @@ def causes_of(told: str, copy: Copied | None = None) -> Iterator[str]:
         yield REFUSALS[number][1]
         if number == 31 and name != "-":
             try:
-                with open_file(name) as file:
-                    file.read(1)
+                next(pieces_of(name), b"")
             except OSError as error:
                 yield reason_of(error)
         return
     line = int(found["place"]) if refused and found["place"] != "end" else None
     node = int(found["node"]) if other and found["node"] else None
-    with contextlib.ExitStack() as stack:
-        text = copy.again if copy and name == "-" else opener_of(name, stack)
-        cause = cause_of(text, None if name == "-" else name, line, number, node)
-        yield from Refused(name, line, number, "", node, cause.text, "\n".join(cause.hints), cause.mark).causes
+    text: Opener | None = copy.again if copy and name == "-" else None
+    # Nothing else can be read twice.
+    if name != "-" and os.path.isfile(name) and os.access(name, os.R_OK):
+        text = functools.partial(pieces_of, name)
+    cause = cause_of(text, None if name == "-" else name, line, number, node)
+    yield from Refused(name, line, number, "", node, *cause).causes
 
 
-def open_file(name: str) -> BinaryIO:
-    return open(name, "rb", buffering=0, opener=lambda it, flags: os.open(it, flags | os.O_NONBLOCK))
-
-
-def opener_of(name: str, stack: contextlib.ExitStack) -> Opener | None:
-    """Returns how a regular file is read from its beginning, or None for anything else."""
-    if name == "-" or not os.path.isfile(name):
-        return None
-    with contextlib.suppress(OSError):
-        file = stack.enter_context(open_file(name))
-
-        def text() -> Iterator[bytes]:
-            file.seek(0)
-            return of_stream(file)
-
-        return text
-    return None
+def pieces_of(name: str) -> Iterator[bytes]:
+    """Yields what a file has, and does not wait for the writer of a FIFO."""
+    with open(name, "rb", buffering=0, opener=lambda it, flags: os.open(it, flags | os.O_NONBLOCK)) as file:
+        yield from of_stream(file)
 
 
 def wrong_words(words: Sequence[str]) -> Iterator[str]:
@@ -165,26 +147,23 @@ def wrong_words(words: Sequence[str]) -> Iterator[str]:
     if command not in COMMANDS:
         yield unknown_command(command, "dnorm", COMMANDS)
         return
-    options, wanted = COMMANDS[command]
+    option, wanted = COMMANDS[command]
     files: list[str] = []
-    given: set[str] = set()
-    rest = iter(others)
+    is_given, rest = False, iter(others)
     for it in rest:
-        name, is_given, value = it.partition("=")
+        name, has_value, value = it.partition("=")
         if it == "--":
             files += rest
         elif it == "-" or not it.startswith("-"):
             files.append(it)
-        elif name not in options:
-            known = f"it has {', '.join(options)}" if options else "it has none but --help"
-            yield f"{command} has no option {name}: {known}"
+        elif name != option:
+            yield f"{command} has no option {name}: it has {option or 'none but --help'}"
             return
-        elif name in given:
+        elif is_given:
             yield f"{name} can be given once"
             return
         else:
-            given.add(name)
-            value = value if is_given else next(rest, "")
+            is_given, value = True, value if has_value else next(rest, "")
             if not value or VALUES[name] and value not in VALUES[name]:
                 yield f"{name} takes {' or '.join(VALUES[name]) or 'the name of a file'}, and not {value!r}"
                 return
@@ -226,7 +205,7 @@ def unknown_command(word: str, program: str, commands: Iterable[str]) -> str:
 def main(words: Sequence[str] | None = None) -> int:
     """Runs the command, and returns the status. A failure is a line on standard error; a signal ends this like other
     tools."""
-    for it in (signal.SIGINT, signal.SIGPIPE):
+    for it in (signal.SIGINT, signal.SIGPIPE, signal.SIGCHLD):
         signal.signal(it, signal.SIG_DFL)
     try:
         return explain(sys.argv[1:] if words is None else words)

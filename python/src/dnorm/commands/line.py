@@ -9,11 +9,11 @@ import signal
 import sys
 import traceback
 from collections.abc import Callable, Sequence
-from typing import IO, Any, NoReturn, Optional
+from typing import Any, NoReturn
 
 from .. import __version__
 from ..causes import quoted
-from ..console import SIGNALS, Console, Stopped, has_output, heed, number
+from ..console import SIGNALS, Console, Parser, Stopped, has_output, heed, number
 from ..errors import DnormError, Read, Refused, Write
 from ..files import failing
 from ..library import find_library
@@ -26,7 +26,7 @@ from ..records import Record
 from . import explain
 from .explain import unknown_command
 from .reports import causes_of, line_of
-from .tasks import FAILED, REFUSED, USAGE, Run
+from .tasks import FAILED, REFUSED, Run
 
 ABOUT = "Checks, lists and compares many files of DIMACS texts at the same time."
 STATUSES = """\
@@ -58,19 +58,6 @@ OWN = {
     "explain": "Runs the program, or reads what it has printed, and prints what shows the cause of a refusal.",
     "parts": "Writes the canonical text of a graph that does not fit into memory.",
 }
-
-
-class Parser(argparse.ArgumentParser):
-    """A parser with a status of its own for a command line that is refused. It fails where it cannot print its help."""
-
-    # What is said of a file whose name is taken for an option.
-    more = ""
-
-    def error(self, message: str) -> NoReturn:
-        self.exit(USAGE, f"{self.prog}: {message}{Parser.more} (--help tells more)\n")
-
-    def _print_message(self, message: str, file: Optional[IO[str]] = None) -> None:
-        (Console().complain if file is sys.stderr else Console().print)(message)
 
 
 def parser() -> Parser:
@@ -156,9 +143,10 @@ def add_looks(one: argparse.ArgumentParser) -> None:
     one.add_argument("path", nargs="+", metavar="PATH", help="two files; or a folder")
     about = "of a folder: name the files that are new, gone, renamed or otherwise than in this manifest"
     one.add_argument("--since", metavar="FILE", help=about)
+    one.add_argument("--markdown", metavar="FILE", help="of a folder: also write a summary in Markdown into FILE")
     one.add_argument("--exclude", action="append", default=[], metavar="PATTERN", help=EXCLUDE)
     one.add_argument("--follow", action="store_true", help=FOLLOW)
-    one.set_defaults(files_from=None, files0_from=None, within=None)
+    one.set_defaults(files_from=None, files0_from=None, within=None, strict=False)
 
 
 def add_comparison(one: argparse.ArgumentParser) -> None:
@@ -226,20 +214,17 @@ def check_files(found: argparse.Namespace, error: Callable[[str], NoReturn]) -> 
         if found.verify is None and found.quiet:
             error("--quiet goes with --verify")
         found.task = "manifest" if found.verify is None else "verify"
-    for option in ("junit", "output", "incremental"):
-        check_report(getattr(found, option, None), option, error)
+    for option in ("junit", "output", "incremental", "markdown"):
+        name = getattr(found, option, None)
+        if name == "-" and option == "incremental":
+            error("--incremental names a file")
+        # A report never takes the place of a text, also through a link.
+        if name and any(is_text(it) or unread_text(it) for it in (name, real(name))):
+            error(f"--{option} {quoted(name)}: a file of such a name is a text, and no report takes its place")
     found.form = getattr(found, "form", None) or 1
     found.ending = getattr(found, "ending", None) or ENDINGS
-    if found.task == "look" and (len(found.path) > 2 or found.since is not None and len(found.path) > 1):
-        error("look takes two files, or one folder, and --since one folder")
-
-
-def check_report(name: str | None, option: str, error: Callable[[str], NoReturn]) -> None:
-    """Refuses a report in the place of a text, also through a link."""
-    if name == "-" and option == "incremental":
-        error("--incremental names a file")
-    if name and any(is_text(it) or unread_text(it) for it in (name, real(name))):
-        error(f"--{option} {quoted(name)}: a file of such a name is a text, and no report takes its place")
+    if found.task == "look" and len(found.path) > (1 if found.since is not None or found.markdown else 2):
+        error("look takes two files, or one folder, and --since and --markdown one folder")
 
 
 def named(found: argparse.Namespace) -> list[str]:

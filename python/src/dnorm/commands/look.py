@@ -208,19 +208,49 @@ def page_of_folder(it: Collection, folder: str, status: int, changes: Optional[C
     return page(f"Collection {folder}", is_good, sentence, parts, table_of(it, groups, changes))
 
 
-def since(it: Collection, changes: Changes) -> list[str]:
-    """Returns what has changed since a manifest. A file that is refused now, or fails, is not gone."""
+def lists_of(it: Collection, changes: Changes) -> dict[str, tuple[str, Sequence[str]]]:
+    """Returns lists of what has changed since a manifest, and their colours. A file that is refused now, or fails, is
+    not gone."""
     faulty = {one.name for one in it.records if one.error}
-    lists = {
+    return {
         "changed": ("two", changes.changed),
         "renamed": ("one", [f"{old} is now {new}" for old, new in changes.renamed]),
         "new": ("three", changes.new),
         "not accepted now": ("worst", [name for name in changes.gone if name in faulty]),
         "gone": ("bad", [name for name in changes.gone if name not in faulty]),
     }
+
+
+def since(it: Collection, changes: Changes) -> list[str]:
+    """Returns what has changed since a manifest."""
+    lists = lists_of(it, changes)
     same = len(it.manifest.checksums) - sum(len(lists[name][1]) for name in ("changed", "renamed", "new"))
     counts = ((name, len(names), colour) for name, (colour, names) in lists.items())
     return [bar([("the same", same, "soft"), *counts]), *(folded(name, names) for name, (_, names) in lists.items())]
+
+
+def summary_of(it: Collection, folder: str, status: int, changes: Optional[Changes]) -> str:
+    """Returns a summary of a folder in Markdown: the counts; refused and failed files with lines and causes; and what
+    has changed since a manifest, and the groups of files of one problem."""
+    faults = sorted((one for one in it.records if one.error), key=lambda one: one.status != "refused")
+    causes = [(one.name, getattr(one.error, "line", None) or "", cause_of(one), one.hint or "") for one in faults]
+    lists = [(name, names) for name, (_, names) in (lists_of(it, changes) if changes else {}).items() if names]
+    lists += [("one problem", names) for names in groups_of(it.records)]
+    told = [(what, len(names), ", ".join(names[:FILES]) + ", .." * (len(names) > FILES)) for what, names in lists]
+    counts = counted(it.counts, ("accepted", "refused", "failed"))
+    parts = [f"### dnorm: {plain(folder)}", f"{counts}; status {status}"]
+    tables: list[tuple[Sequence[str], Sequence[Sequence[object]]]] = [(("File", "Line", "Cause", "Hint"), causes)]
+    for heads, rows in [*tables, (("Group", "Files", "Names"), told)]:
+        lines = [heads, ["---"] * len(heads), *(map(plain, row) for row in rows[:LISTED])]
+        parts += ["\n".join(f"| {' | '.join(line)} |" for line in lines)] if rows else []
+        parts += [f"And {len(rows) - LISTED} more."] if len(rows) > LISTED else []
+    return "\n\n".join(parts) + "\n"
+
+
+def plain(text: object) -> str:
+    """Returns a text for Markdown, in which no character but letters, digits and blanks stands for itself: none begins
+    a link, a cell, a tag or a mention."""
+    return re.sub(r"[^\w ]|_", lambda it: f"&#{ord(it[0])};", shown(str(text).replace("\n", "; ")))
 
 
 def cause_of(it: Record) -> str:
@@ -273,9 +303,8 @@ def table_of(it: Collection, groups: Sequence[Sequence[str]], changes: Optional[
     lines = [one.error.line if isinstance(one.error, Refused) else None for one in it.records]
     columns |= {"line": lines} if any(lines) else {}
     columns |= {"since": (changed_as.get(one.name) for one in it.records)} if changes else {}
-    told: dict[str, object] = {
-        name: " ".join("" if n is None else str(n) for n in cells) for name, cells in columns.items()
-    }
+    texts = {name: ("" if n is None else str(n) for n in cells) for name, cells in columns.items()}
+    told: dict[str, object] = {name: " ".join(cells) for name, cells in texts.items()}
     told |= {"kinds": kinds, "colours": [*COLOURS.values()], "notes": [*map(shown, numbers)], "sinces": SINCE}
     told["names"] = "\n".join(shown(one.name) for one in it.records)
     return {"files": told}

@@ -18,7 +18,6 @@ from ..library import Held
 from ..manifests import line_with
 from ..names import ending_of
 from ..pairs import VALUES, Differences, pairs_of, rows_of
-from ..reader import instance_by
 from ..records import SIZES, Contents, Range, Record
 
 # The sums that `list` tells.
@@ -54,14 +53,11 @@ def counted(counts: Mapping[str, int], always: Container[str]) -> str:
 
 def told_others(others: Mapping[str, str], most: int = 6) -> str:
     """Returns the endings of other files with their numbers, the most frequent ones first."""
-    ends = Counter("links to folders" if why == LINK_TO_FOLDER else kept_ending(name) for name, why in others.items())
+    kept = {name: shown(ending_of(name))[:16] or "no ending" for name in others}
+    ends = Counter("links to folders" if why == LINK_TO_FOLDER else kept[name] for name, why in others.items())
     told = sorted(ends.items(), key=lambda it: (-it[1], it[0]))
     more = [f"more {sum(n for _, n in told[most:])}"] if len(told) > most else []
     return ", ".join([*(f"{it} {n}" for it, n in told[:most]), *more])
-
-
-def kept_ending(name: str) -> str:
-    return shown(ending_of(name))[:16] or "no ending"
 
 
 def line_of(it: Record) -> str:
@@ -97,39 +93,27 @@ def text_of(it: Record) -> str:
     return "".join(f"    {line}\n" for line in lines)
 
 
-def row_of(it: Record, is_first: bool) -> str:
-    """Returns the row of a file in the CSV table of `list`, with the heads before the first one."""
-    ranges = it.contents.fields if it.contents else {}
+def row_of(it: Record) -> str:
+    """Returns the row of a file in the CSV table of `list`."""
+    ranges, text = it.contents.fields if it.contents else {}, io.StringIO()
     found = {f"{field}_{of}": value for field, range_ in ranges.items() for of, value in range_._asdict().items()}
-    rows: list[dict[str, object]] = [dict(zip(HEADS, HEADS))] if is_first else []
-    made = ""
-    for row in [*rows, {**it.as_dict(), **found}]:
-        text = io.StringIO()
-        # Only a terminator with CR has a name with CR quoted.
-        csv.DictWriter(text, HEADS, extrasaction="ignore", lineterminator="\r\n").writerow(row)
-        made += text.getvalue().removesuffix("\r\n") + "\n"
-    return made
+    # Only a terminator with CR has a name with CR quoted.
+    row = csv.DictWriter(text, HEADS, extrasaction="ignore", lineterminator="\r\n")
+    row.writerow({**it.as_dict(), **found})
+    return text.getvalue().removesuffix("\r\n") + "\n"
 
 
 def annotation_of(it: Record) -> str:
     """Returns the line by which GitHub shows an error at a line of a file, or a warning about an accepted file with
     remarks. There is none for any other accepted file."""
-    properties = {"file": os.path.normpath(it.name)}
+    properties, level, told = {"file": os.path.normpath(it.name)}, "error", [f"{it.name}{it.what}", *cause_of(it)]
     if not it.error:
-        text = f"{it.name}: accepted {it.kind}, {', '.join(it.remarks)}"
-        return annotation("warning", properties, text) if it.remarks else ""
-    parts = [f"{it.name}{it.what}"]
+        level, told = "warning", [f"{it.name}: accepted {it.kind}, {', '.join(it.remarks)}"] * bool(it.remarks)
     if isinstance(it.error, Refused):
-        if it.error.line is not None:
-            properties["line"] = str(it.error.line)
+        properties |= {} if it.error.line is None else {"line": str(it.error.line)}
         properties["title"] = f"dnorm: {it.error.number} {it.error.word}"
-    parts += cause_of(it)
-    return annotation("error", properties, "\n".join(parts))
-
-
-def annotation(level: str, properties: dict[str, str], text: str) -> str:
-    fields = ",".join(f"{key}={escaped(value, NO_PROPERTY)}" for key, value in properties.items())
-    return f"::{level} {fields}::{escaped(text, NO_MESSAGE)}\n"
+    fields, text = (f"{key}={escaped(value, NO_PROPERTY)}" for key, value in properties.items()), "\n".join(told)
+    return f"::{level} {','.join(fields)}::{escaped(text, NO_MESSAGE)}\n" if told else ""
 
 
 def escaped(text: str, forbidden: re.Pattern[str]) -> str:
@@ -198,7 +182,7 @@ def lines_of_differences(it: Differences) -> Iterator[str]:
 
 def lines_of_show(it: Held) -> Iterator[str]:
     """Yields the lines that `dnorm show` prints of a text."""
-    found = instance_by(it, 2)
+    found = it.instance(2)
     yield f"kind {it.kind}\n" + (f"nodes {it.nodes}\n" if isinstance(found, Graph) else "") + f"lines {it.lines}\n"
     if isinstance(found, Min):
         yield f"supplies {len(found.supplies)}\n"

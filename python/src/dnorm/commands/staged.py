@@ -72,11 +72,8 @@ class Index:
                 commit = os.fsdecode(self.git("rev-parse", "--verify", "--quiet", "HEAD"))[:-1]
             except Read:
                 commit = os.fsdecode(self.git("hash-object", "-t", "tree", os.devnull))[:-1]
-        return named(
-            self.git(
-                "diff-index", "--cached", "--ita-invisible-in-index", "--name-only", "--no-renames", "-z", commit, "--"
-            )
-        )
+        only = ("--cached", "--ita-invisible-in-index", "--name-only", "--no-renames", "-z")
+        return named(self.git("diff-index", *only, commit, "--"))
 
     def place(self, name: str) -> str:
         return os.path.join(self.folder, name)
@@ -149,14 +146,11 @@ def staged(commit: str | None, excluded: Sequence[str], stack: ExitStack) -> Fou
         index.write(it for it in near if index.modes[it] in (FILE, LINK))
     stack.callback(os.chdir, os.getcwd())
     os.chdir(folder)
-    bounds = Bounds((index.folder, os.path.join(index.top, ".git", ANNEX)), out=LEADS_OUT)
-    files = [it for it in wanted(index, changed, near) if not is_excluded(it, patterns)]
-    return Found({it: index.errors.get(it) or error_of(it, ENDINGS) for it in files}, {}, bounds=bounds)
-
-
-def wanted(index: Index, changed: Sequence[str], near: Sequence[str]) -> list[str]:
-    """Returns which of the names near those that have changed are checked."""
+    found = Found(ENDINGS, patterns)
+    found.bounds = Bounds((index.folder, os.path.join(index.top, ".git", ANNEX)), out=LEADS_OUT)
     graphs = {stem_of(it) for it in changed if parts_of(it)[1] in WITH_COMPANIONS}
     names = {*changed} | {it for it in near if parts_of(it)[1] in COMPANIONS and stem_of(it) in graphs}
-    links = {it for it in near if index.modes[it] == LINK and it not in index.errors and index.is_folder(it)}
-    return [it for it in near if it in names - links and index.modes[it] in (FILE, LINK)]
+    names -= {it for it in near if index.modes[it] == LINK and it not in index.errors and index.is_folder(it)}
+    files = [it for it in near if it in names and index.modes[it] in (FILE, LINK) and not is_excluded(it, patterns)]
+    found.files = {it: index.errors.get(it) or error_of(it, ENDINGS) for it in files}
+    return found

@@ -25,14 +25,14 @@ from ..manifests import text_of as text_of_manifest
 from ..names import place_of, real
 from ..pairs import differences
 from ..records import Partners, Reading, Record, Tells, counts_of
-from .look import page_of_folder, page_of_pair
-from .reports import annotation_of, causes_of, counted, junit, line_of, lines_of_differences, lines_of_show
+from .look import page_of_folder, page_of_pair, summary_of
+from .reports import HEADS, annotation_of, causes_of, counted, junit, line_of, lines_of_differences, lines_of_show
 from .reports import record_of_differences, row_of, text_of, told_others
 from .staged import is_strict, staged
 from .workers import Workers
 
 # The exit statuses besides 0. The greatest one that applies counts.
-DIFFERS, REFUSED, USAGE, FAILED = 1, 2, 3, 4
+DIFFERS, REFUSED, FAILED = 1, 2, 4
 
 # How long the check of a staged file may take.
 MINUTE = 60
@@ -56,11 +56,10 @@ class Run:
         self.records: list[Record] = []
         self.own = self.excluded = 0
         self.others: dict[str, str] = {}
-        # How many files are done, if not all of them; what takes the results that a signal has left; and what prints
-        # more about all results.
+        # How many files are done, if not all of them; the results that a signal has left; and what takes a result.
         self.unfinished = ""
-        self.take_rest: Callable[[], None] = lambda: None
-        self.print_rest: Callable[[], None] = lambda: None
+        self.rest: list[Record] = []
+        self.take: Callable[[Record], None] = lambda _: None
 
     @property
     def status(self) -> int:
@@ -93,7 +92,6 @@ class Run:
             found = self.found() if words.staged is None else staged(words.staged or None, words.exclude, stack)
             report = stack.enter_context(self.sink(words.junit)) if words.junit else None
             reading = self.reading(found, "kind", self.partners(found) if words.companions else None)
-            self.print_rest = self.print_end
             self.read(in_order_of_names(found.files), reading.record, self.print_record)
             if report:
                 report.take(junit(self.records))
@@ -267,15 +265,13 @@ class Run:
         self.sum_up({}, {"groups": len(same), "links": links})
 
     def list(self) -> None:
-        rows = 0
+        heads = iter([",".join(HEADS) + "\n"])
 
         def take(it: Record) -> None:
-            nonlocal rows
             if it.error or self.is_json:
                 self.tell(it)
             elif self.words.csv:
-                self.console.print(row_of(it, not rows))
-                rows += 1
+                self.console.print(next(heads, "") + row_of(it))
             else:
                 self.console.print(line_with(it.name, after=f": {it.kind}") + text_of(it))
 
@@ -338,8 +334,7 @@ class Run:
             return
         older = None if words.since is None else read_manifest(self.given(words.since))
         words.form = older.form if older else words.form
-        found = find(words.path, words.ending, words.exclude, follow=words.follow)
-        self.others, self.excluded = found.others, found.excluded
+        found = self.found()
         partners = self.partners(found)
         self.read(in_order_of_names(found.files), self.reading(found, "whole", partners).record, lambda _: None)
         collection = Collection(tuple(self.records), found.others, found.excluded, words.form)
@@ -348,7 +343,11 @@ class Run:
             places = {place_of(it): it for it in collection.manifest.checksums}
             sums = {places.get(place_of(it), it): checksum for it, checksum in older.checksums.items()}
             changes = manifest_changes(Manifest(older.form, sums), collection.manifest)
-        self.console.print(page_of_folder(collection, words.path[0], self.status, changes))
+        if words.markdown:
+            with self.sink(words.markdown) as sink:
+                sink.take(summary_of(collection, words.path[0], self.status, changes).encode())
+        if words.markdown != "-":
+            self.console.print(page_of_folder(collection, words.path[0], self.status, changes))
         self.sum_up_checks()
 
     def found(self) -> Found:
@@ -357,11 +356,11 @@ class Run:
         words = self.words
         found = find(words.path, words.ending, words.exclude, follow=words.follow, within=words.within)
         self.excluded += found.excluded
-        for it in found.unused:
+        for it in [it for it in words.exclude if it not in found.used]:
             self.console.complain(line_with(it, before="--exclude ", after=": nothing matches it"))
         if words.strict:
             errors = {name: Read(name, reason) for name, reason in found.others.items()}
-            return Found(in_order_of_names({**found.files, **errors}), {}, bounds=found.bounds)
+            found.files, found.others = in_order_of_names({**found.files, **errors}), {}
         self.others = found.others
         return found
 
@@ -374,11 +373,7 @@ class Run:
             self.console.step()
             return found
 
-        def taken(it: Record) -> None:
-            self.records.append(it)
-            take(it)
-
-        names = [*files]
+        names, self.take = [*files], take
         size = sum(os.path.getsize(it) for it in names if os.path.isfile(it)) if self.console.is_terminal else 0
         self.console.expect(len(names), size)
         workers, ended = Workers(one, names, self.words.jobs), 0
@@ -386,27 +381,27 @@ class Run:
             for at in range(len(names)):
                 found = workers.result(at, self.console.draw)
                 ended += 1
-                taken(found)
+                self.taken(found)
                 if getattr(self.words, "exit_first", False) and found.error:
                     self.unfinished = f"{ended} of {len(names)} done"
                     workers.stop()
                     break
         except BaseException:
-            rest = workers.stop()
-
-            def take_rest() -> None:
-                for it in rest:
-                    taken(it)
-                self.unfinished = f"{ended + len(rest)} of {len(names)} done"
-
-            self.take_rest = take_rest
+            self.rest = workers.stop()
+            self.unfinished = f"{ended + len(self.rest)} of {len(names)} done"
             raise
+
+    def taken(self, it: Record) -> None:
+        self.records.append(it)
+        self.take(it)
 
     def stop(self) -> None:
         """Prints what is known of a run that a signal ends."""
-        self.take_rest()
+        for it in self.rest:
+            self.taken(it)
         if self.unfinished:
-            self.print_rest()
+            if self.words.task == "check":
+                self.print_end()
             self.sum_up({})
 
     def tell(self, it: Record) -> None:

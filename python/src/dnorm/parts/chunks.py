@@ -21,14 +21,14 @@ from collections.abc import Iterable, Iterator, Sequence
 from concurrent.futures import FIRST_EXCEPTION, ThreadPoolExecutor, wait
 from dataclasses import dataclass
 from io import BytesIO
-from itertools import accumulate, chain, islice
+from itertools import chain, islice
 from typing import BinaryIO, NamedTuple
 
 from ..console import Console
 from ..errors import DnormError, Memory, Refused, Write
-from ..files import reason_of, write_all
+from ..files import of_stream, reason_of, write_all
 from ..limits import heeding_signals
-from .runs import ARC, BLOCK, Piece, Result, blocks, canon, canon_part, children, lines, whole
+from .runs import ARC, Piece, Result, blocks, canon, canon_part, children, lines, whole
 
 # A line whose first word is `p`.
 PROBLEM = re.compile(rb"^[ \t\r]*p[ \t\r].*", re.M)
@@ -77,19 +77,15 @@ class Parts:
         self.options, self.folder, self.program, self.out, self.has_output = options, folder, program, out, has_output
         self.console = Console()
         self.head = f"{folder}/head.raw"
-        self.kind, self.nodes, self.declared = "", 0, 0
         # The refusal of a `max` text without a source or a sink, which is reported only at the end.
         self.missing = ""
 
     def run(self) -> None:
         """Reads the text from standard input, and writes its canonical text."""
-        paths = self.cut_text()
-        found = first_arc(paths)
-        if not found:
-            return self.in_one_run(paths)
-        chunks = self.without_head(paths, *found)
-        self.read_head(chunks[0])
-        if self.kind == "max" and self.nodes <= 1:
+        chunks = self.cut_text()
+        if chunks:
+            self.read_head(chunks[0])
+        if not chunks or self.kind == "max" and self.nodes <= 1:
             # A part needs a source and a sink. A graph of one node has at most one pair.
             return self.in_one_run([self.head, *(it.path for it in chunks)])
         results = self.canon("canonicalising chunks", [([whole(it.path)], it.path) for it in chunks], 1)
@@ -117,23 +113,28 @@ class Parts:
         if self.console.is_terminal and what:
             self.console.complain(f"canon-in-parts: {what}\n")
 
-    def cut_text(self) -> list[str]:
-        """Cuts standard input into chunks of whole lines."""
+    def cut_text(self) -> list[Chunk]:
+        """Cuts standard input into the head, with all lines before the first arc line, and chunks of whole lines."""
         self.tell("cutting the text")
-        paths: list[str] = []
-        left, block = 0, b""
+        chunks: list[Chunk] = []
+        left = before = 0
         with open(0, "rb", buffering=0, closefd=False) as text, contextlib.ExitStack() as stack:
-            while block := block or text.read(BLOCK):
-                if not left:
-                    stack.close()
-                    left = self.lines_of(len(paths))
-                    paths.append(f"{self.folder}/chunk.{len(paths):07}")
-                    chunk = stack.enter_context(open(paths[-1], "wb", buffering=0))
-                end = end_of_line(block, left)
-                write_all(chunk, block[:end])
-                left -= block.count(b"\n", 0, end)
-                block = block[end:]
-        return paths
+            file = stack.enter_context(open(self.head, "wb", buffering=0))
+            for block in lines(of_stream(text)):
+                first = None if chunks else ARC.search(block)
+                # So much of the block belongs to the file that is open.
+                end = 0 if chunks else first.start() if first else len(block)
+                while block:
+                    write_all(file, block[:end])
+                    count, block = block.count(b"\n", 0, end), block[end:]
+                    before, left = before + count, max(0, left - count)
+                    if block and not left:
+                        stack.close()
+                        left = self.lines_of(len(chunks))
+                        chunks.append(Chunk(f"{self.folder}/chunk.{len(chunks):07}", before))
+                        file = stack.enter_context(open(chunks[-1].path, "wb", buffering=0))
+                    end = len(block) if block.count(b"\n") < left else end_of(BytesIO(block), left)
+        return chunks
 
     def lines_of(self, number: int) -> int:
         """Returns how many lines the chunk of this number has. Each chunk is cut at the bounds of all ranges, so the
@@ -150,36 +151,19 @@ class Parts:
         if not self.has_output:
             raise Write("out")
 
-    def without_head(self, paths: Sequence[str], first: int, at: int) -> list[Chunk]:
-        """Moves all lines before the first arc line, at byte `at` of this chunk, from the chunks into the head."""
-        pieces = [*map(whole, paths[:first]), Piece(paths[first], 0, at)]
-        with open(self.head, "wb", buffering=0) as head:
-            pour(head, *pieces)
-        before = line_count(pieces[-1])
-        rest = f"{self.folder}/rest"
-        with open(rest, "wb", buffering=0) as file:
-            pour(file, Piece(paths[first], at, os.path.getsize(paths[first])))
-        for path in paths[:first]:
-            os.remove(path)
-        os.replace(rest, paths[first])
-        places = accumulate(map(self.lines_of, range(len(paths))), initial=0)
-        chunks = [*map(Chunk, paths, places)][first:]
-        chunks[0].before += before
-        return chunks
-
     def read_head(self, first: Chunk) -> None:
         """Reads the head with the first arc line, so that each fault up to there is reported as it is, and takes the
         kind and the two numbers of the problem line."""
         with open(first.path, "rb") as chunk:
             arc = chunk.readline()
         try:
-            canon(self.program, chain(lines(whole(self.head)), [arc]), 1, subprocess.DEVNULL)
+            canon(self.program, chain(blocks(whole(self.head)), [arc]), 1, subprocess.DEVNULL)
         except Refused as error:
             if error.number == 19:
                 self.missing = error.rest
             elif error.number != 20:
                 raise self.stop(error.rest) from error
-        problem = next(filter(None, map(PROBLEM.search, lines(whole(self.head)))))
+        problem = next(filter(None, map(PROBLEM.search, lines(blocks(whole(self.head))))))
         _, kind, nodes, declared, *_ = re.split(rb"[ \t\r]+", problem[0].strip(b" \t\r"))
         self.kind, self.nodes, self.declared = kind.decode(), int(nodes), int(declared)
 
@@ -236,7 +220,8 @@ class Parts:
                 fault = Fault(chunk.before + line, refusal)
                 if self.kind == "sp":
                     raise self.stop(f":{fault.line}: {refusal}")
-                os.truncate(chunk.path, end_of(chunk.path, line - 1))
+                with open(chunk.path, "rb+") as file:
+                    file.truncate(end_of(file, line - 1))
                 result = self.canon("", [([whole(chunk.path)], chunk.path)], 1)[0]
             chunk.arcs = Piece(f"{chunk.path}.arcs", result.start, result.size)
             made += result.made
@@ -267,7 +252,7 @@ class Parts:
         at = f"{self.folder}/head.canon"
         problem = f"p {self.kind} {self.nodes} 0".encode()
         with open(at, "wb") as head:
-            canon(self.program, (PROBLEM.sub(problem, it, 1) for it in lines(whole(self.head))), 1, head)
+            canon(self.program, (PROBLEM.sub(problem, it, 1) for it in lines(blocks(whole(self.head)))), 1, head)
         with open(at, "rb") as head:
             end = len(head.readline())
         count = sum(it.made for it in results)
@@ -288,31 +273,13 @@ def pour(to: BinaryIO, *pieces: Piece) -> None:
         write_all(to, block)
 
 
-def end_of_line(block: bytes, number: int) -> int:
-    """Returns where the line of this number ends, or else the end of the block."""
-    return len(block) if block.count(b"\n") < number else sum(map(len, islice(BytesIO(block), number)))
-
-
-def end_of(path: str, number: int) -> int:
+def end_of(file: Iterable[bytes], number: int) -> int:
     """Returns where the line of this number ends in a file."""
-    with open(path, "rb") as file:
-        return sum(map(len, islice(file, number)))
+    return sum(map(len, islice(file, number)))
 
 
 def line_count(piece: Piece) -> int:
-    return sum(block.count(b"\n") for block in lines(piece))
-
-
-def first_arc(paths: Sequence[str]) -> tuple[int, int] | None:
-    """Returns the first of these files that has an arc line, by its place, and the byte at which the line begins."""
-    for number, path in enumerate(paths):
-        at = 0
-        for block in lines(whole(path)):
-            found = ARC.search(block)
-            if found:
-                return number, at + found.start()
-            at += len(block)
-    return None
+    return sum(block.count(b"\n") for block in blocks(piece))
 
 
 def line_of_arc(path: str, number: int) -> int:

@@ -11,9 +11,9 @@ import subprocess
 import sys
 import tempfile
 from collections.abc import Iterator, Sequence
-from typing import Any, BinaryIO, ContextManager, NoReturn
+from typing import Any, BinaryIO, ContextManager
 
-from ..console import SIGNALS, Console, Stopped, has_output, heed, is_open, number
+from ..console import SIGNALS, Console, Parser, Stopped, has_output, heed, is_open, number
 from ..errors import DnormError, Memory, Write
 from ..files import file_at, reason_of
 from ..names import packed_of
@@ -41,13 +41,6 @@ Faults are reported as dnorm reports them, by the line of the whole text. Unlike
 Status: 0 done; 2 the text has a fault; 3 the command line is wrong; 4 out of memory, a source or standard output
 that failed, or any other failure; 125 the program could not be built; 128 plus the number of a signal.
 """
-
-
-class Parser(argparse.ArgumentParser):
-    """A parser that refuses a command line in one line."""
-
-    def error(self, message: str) -> NoReturn:
-        raise fail(3, f"{message} (--help tells more)")
 
 
 def parser() -> Parser:
@@ -87,14 +80,14 @@ def version_of(program: str) -> str:
 
 
 def run(words: Sequence[str], has_input: bool, is_written: bool) -> None:
-    found = parser().parse_args(words)
+    found, error = parser().parse_args(words), parser().error
     program = os.path.abspath(found.program or find_program())
     version = version_of(program)
     if found.version:
         Console().print(f"canon-in-parts (dnorm) {version}")
         return
     if found.file is None:
-        raise fail(3, "one FILE is wanted, or - (--help tells more)")
+        error("one FILE is wanted, or -")
     found.output = None if found.output == "-" else found.output
     if found.output and packed_of(found.output)[1]:
         raise fail(3, f"-o {found.output}: the text is not compressed")

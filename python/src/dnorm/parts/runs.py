@@ -89,24 +89,9 @@ def canon(program: str, text: Iterable[bytes], form: int, to: Union[int, BinaryI
                 for block in text:
                     write_all(cast(BinaryIO, process.stdin), block)
             process.stdin.close()
-            error = error_of(process.stderr.read().decode("ascii", "backslashreplace"), ended(process))
+            error = error_of(process.stderr.read().decode("ascii", "backslashreplace"), process.wait())
             if error:
                 raise error
-
-
-def ended(process: subprocess.Popen[bytes]) -> int:
-    """Waits for the end of a process, and returns its status."""
-    try:
-        if hasattr(os, "waitid"):
-            os.waitid(os.P_PID, process.pid, os.WEXITED | os.WNOWAIT)
-        else:
-            # macOS has it from Python 3.13 on.
-            process.returncode = os.waitstatus_to_exitcode(os.waitpid(process.pid, 0)[1])
-    except ChildProcessError as error:
-        # Popen takes a status that is lost for 0.
-        reason = "its status is lost, since SIGCHLD is ignored or something else waits for all processes"
-        raise Broken("dnorm", f"did not answer as it should ({reason})") from error
-    return process.wait()
 
 
 def error_of(line: str, status: int) -> DnormError | None:
@@ -161,10 +146,10 @@ def blocks(piece: Piece) -> Iterator[bytes]:
             yield block
 
 
-def lines(piece: Piece) -> Iterator[bytes]:
-    """Yields bytes of a file in blocks of whole lines. Only the last line may lack its end."""
+def lines(blocks: Iterable[bytes]) -> Iterator[bytes]:
+    """Yields bytes in blocks of whole lines. Only the last line may lack its end."""
     rest = b""
-    for block in blocks(piece):
+    for block in blocks:
         end = block.rfind(b"\n") + 1
         if end:
             yield rest + block[:end]
@@ -195,7 +180,7 @@ def front(kind: str, nodes: int, arcs: int) -> bytes:
 
 def canon_part(program: str, kind: str, nodes: int, form: int, pieces: Iterable[Piece], to: str) -> Result:
     """Writes the canonical text of a part into a file, and returns the result."""
-    arcs = sum(arcs_in(block) for piece in pieces for block in lines(piece))
+    arcs = sum(arcs_in(block) for piece in pieces for block in lines(blocks(piece)))
     head = front(kind, nodes, arcs)
     with open(to, "wb") as file:
         try:
