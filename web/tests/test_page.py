@@ -3,7 +3,6 @@ mouse and by keys; that it connects to nothing; and that its controls have names
 
 import gzip
 import hashlib
-import json
 import os
 import random
 import time
