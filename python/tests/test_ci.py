@@ -143,6 +143,9 @@ def test_summary(monkeypatch: pytest.MonkeyPatch) -> None:
         "", "| Group | Files | Names |", "| --- | --- | --- |", "| changed | 1 | m/b.gr |",
         "| new | 2 | m/d.gr, m/e.min |", "| gone | 1 | m/x.gr |", "| one problem | 2 | m/b.gr, m/d.gr |",
     ]  # fmt: skip
+    assert (
+        f"{html.escape(hint)}; Scale to" in module("look", "m").out.decode()
+    ), "the page has the hint in one line, too"
     assert module("look", "--markdown", "m/b.gr", "m").status == 3, "no summary takes the place of a text"
     monkeypatch.setattr(look, "FILES", 1)
     monkeypatch.setattr(look, "LISTED", 2)

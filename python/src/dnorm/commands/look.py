@@ -269,7 +269,8 @@ def refusals(records: Sequence[Record]) -> list[str]:
         for it in found[:FILES]:
             line, text = (it.error.line, it.error.text) if isinstance(it.error, Refused) else (None, None)
             code = f"<code>{escaped((text or '')[:120])}</code>"
-            cells.append([escaped(f"{it.name}:{line}" if line else it.name), code, escaped(it.hint or "")])
+            hint = (it.hint or "").replace("\n", "; ")
+            cells.append([escaped(f"{it.name}:{line}" if line else it.name), code, escaped(hint)])
         more = f"<p>And {len(found) - FILES} more, in the table of files.</p>" if len(found) > FILES else ""
         summary = f"<summary>{escaped(cause)}: {len(found)}</summary>{table(['File', 'Line', 'Hint'], cells)}{more}"
         made.append(f"<details{' open' * (len(causes) < 4)}>{summary}</details>")
