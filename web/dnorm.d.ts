@@ -76,7 +76,7 @@ export class Instance {
   arcCount(form?: Form): bigint | null;
   /** [tail, head, length], [tail, head, capacity], or [tail, head, low, capacity, cost], in the order of the canonical
    *  text. Those of the first `pairs` pairs are passed over. */
-  arcs(form?: Form, pairs?: bigint): Generator<[tail: bigint, head: bigint, ...values: bigint[]]>;
+  arcs(form?: Form, pairs?: bigint): Generator<bigint[]>;
   /** The canonical arcs as columns, in the same order: of `sp` also `length`, of `max` `capacity`, and of `min` `low`,
    *  `capacity` and `cost`. */
   columns(form?: Form): { tail: BigInt64Array; head: BigInt64Array; [value: string]: BigInt64Array };

@@ -17,6 +17,7 @@ import tarfile
 import time
 import zipfile
 
+import kit
 import pytest
 from builds import by_cmake
 from known import CANONICAL, ROADS, ROADS_CANON, rows
@@ -213,7 +214,7 @@ def test_archive(made: Made, port: Port) -> None:
     assert {it.mode for it in members if it.isdir()} == {0o755}, "its folders' modes"
     for name in ["bin/dnorm", "lib/libdnorm.a", "lib/libdnorm.so.3"]:
         linked = bytes_of(f"{port.tree}/{name}")
-        for it in [made.folder, ROOT, os.path.dirname(os.path.dirname(os.path.realpath(shutil.which("rt") or "")))]:
+        for it in [made.folder, ROOT, str(kit.find()[0] or ROOT)]:
             assert it.encode() not in linked, f"{it} is in {name}"
         told = run(["readelf", "-hW", f"{port.tree}/{name}"]).out.decode()
         assert set(re.findall(r"^ *Machine: +(.*)$", told, re.M)) == {port.machine.processor}, name
