@@ -58,7 +58,7 @@ build/dnorm: build/dnorm.o
 	"$(KIT)/bin/rattle-link" --target x86_64-unknown-linux-gnu --toolchain "$(KIT)/toolchain" -o $@ $< "$(KIT)"/c/{libos_c,liblibc_c}.a > /dev/null
 build/static/dnorm: build/dnorm.o
 	mkdir -p build/static
-	gcc -static -Wl,--build-id=none -o $@ $< "$(KIT)"/c/{libos_c,liblibc_c}.a
+	gcc -static -Wl,--build-id=none,--cref,-Map=$@.map -o $@ $< "$(KIT)"/c/{libos_c,liblibc_c}.a
 	strip --strip-all --remove-section=.comment $@
 build/libdnorm.a build/libdnorm.so.3 &: build/dn_c.a c/link c/free.c c/dnorm.map
 	c/link build cc objcopy $(AR) $< "$(KIT)/c/liblibc_c.a" --

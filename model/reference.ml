@@ -7,7 +7,7 @@ open Model
 type string = Stdlib.String.t
 
 let string_of bytes = String.of_seq (List.to_seq bytes)
-let number n = string_of (decimal_fast n)
+let number n = string_of (decimal n)
 let numbers ns = String.concat " " (List.map number ns)
 let count l = string_of_int (List.length l)
 let ends (u, v) = numbers [u; v]
@@ -48,13 +48,13 @@ let instance_of name bytes =
 
 let read name = instance_of name (bytes_of name)
 
-(* Running.print_by_lines: these are the bytes of the printed instance. *)
+(* Headline.program_prints: these are the bytes of the printed instance. *)
 let print i =
   let b = Buffer.create 65536 and k = kind_of i in
   List.iter (fun item -> List.iter (Buffer.add_char b) (line k item)) (items i);
   Buffer.contents b
 
-let canonical form i = print (canon_fast form i)
+let canonical form i = print (canon form i)
 
 (* Headline.is_canon: a text that is read is canonical if its bytes are those of the canonical text. *)
 let forms i bytes =

@@ -13,8 +13,8 @@ Item = struct(id=I64, a=I64, b=I64)
 Row = struct(line=U64, tail=I64, head=I64, a=I64, b=I64, c=I64)
 # Functions that get texts and rooms in another way than those of the package: what they return, and their arguments.
 OTHERS = {
-    "text": (Count, HANDLE, SIZE, ADDRESS, SIZE),
-    "lines": (Given, HANDLE, ctypes.c_char_p, SIZE, ADDRESS, SIZE),
+    "dnorm_text": (Count, HANDLE, SIZE, ADDRESS, SIZE),
+    "dnorm_lines": (Given, HANDLE, ctypes.c_char_p, SIZE, ADDRESS, SIZE),
 }
 
 
@@ -53,7 +53,7 @@ class Library:
         loaded = ctypes.CDLL(path)
         self.calls: dict[str, Any] = {}
         for name, (result, *arguments) in {**FUNCTIONS, **OTHERS}.items():
-            self.calls[name] = call = getattr(loaded, f"dnorm_{name}")
+            self.calls[name.removeprefix("dnorm_")] = call = getattr(loaded, name)
             call.restype, call.argtypes = result, arguments
 
     def __getattr__(self, name: str) -> Any:

@@ -146,6 +146,7 @@ def test_summary(monkeypatch: pytest.MonkeyPatch) -> None:
     assert (
         f"{html.escape(hint)}; Scale to" in module("look", "m").out.decode()
     ), "the page has the hint in one line, too"
+    assert module("look", "m").out.count(b"<details open>") == 3, "up to three causes are open"
     assert module("look", "--markdown", "m/b.gr", "m").status == 3, "no summary takes the place of a text"
     monkeypatch.setattr(look, "FILES", 1)
     monkeypatch.setattr(look, "LISTED", 2)
@@ -178,3 +179,8 @@ def test_pre_commit() -> None:
     ]  # fmt: skip
     for words, out, count, status in rows:
         assert run([script, *words], env=environment) == said(out, f"{count}\n", status), words
+    os.makedirs("copy/python/ci")
+    shutil.copy(script, "copy/python/ci")
+    os.mkdir("copy/bin")
+    write("copy/bin/dnorm-files", '#!/bin/sh\necho "$@"\n', 0o755)
+    assert b" --timeout 60 " in run(["sh", "copy/python/ci/check-files", "a.gr"]).out, "its limit"

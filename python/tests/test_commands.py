@@ -5,10 +5,11 @@ each refusal once."""
 import gzip
 import os
 import re
+import shutil
 
 from known import COSTS, FLOWS, ROADS, ROADS_CANON
 from shared import bytes_of, make, run, said, write
-from test_calls import COMPRESS, READS
+from test_calls import COMPRESS, READS, python
 from test_folders import LETTERS, SENTENCES, X, by_shell, hidden, module, on_terminal, prints
 from test_manifests import ABOUT
 
@@ -32,6 +33,9 @@ def test_as_program(tested: str) -> None:
             assert module(*words, "-", given=text) == wanted, f"{words} of standard input, {name}"
     one, other = (run([tested, "show", it]).out.decode() for it in ("a.gr", "b.min"))
     prints("show b.min a.gr", f"a.gr:\n{one}b.min:\n{other}", "2 shown, 0 refused, 0 failed\n")
+    make({"bad.gr": b"x\n", "one/a.gr": ROADS, "one/a.gr.md5": b""})
+    prints("show bad.gr", "", f"bad.gr:1: 1 BadLine\n{X}", 2)
+    prints("show one", one, "1 shown, 0 refused, 0 failed\n1 other file: .md5 1; --strict refuses them\n")
 
 
 def test_output() -> None:
@@ -49,6 +53,7 @@ def test_output() -> None:
 def test_standard_streams(tested: str) -> None:
     """`-` is standard input or output wherever a file may stand."""
     make({"a.gr": ROADS, "bad.gr": b"p sp 2 1\na 1 3 5\n"})
+    os.mkdir("-")
     prints("check -", "-: accepted sp\n", "1 accepted, 0 refused, 0 failed\n", given=ROADS)
     cause = (
         f"-:2: 13 NodeOutOfRange\n{SENTENCES[13]}    line 2: a 1 3 5\n                ^\n    a SRC=1 DST=3 LENGTH=5\n"
@@ -67,6 +72,8 @@ def test_standard_streams(tested: str) -> None:
     prints("check --files-from - bad.gr -q", "bad.gr:2: 13 NodeOutOfRange\n", f"1{count[1:]}", 2, given=b"s/b.gr\n")
     report = module("check", "--junit", "-", "s/b.gr").out
     assert (report[:5], report.count(b"<testcase")) == (b"<?xml", 1)
+    write("e.max", ROADS)
+    assert b"<system-out>its ending is that of max</system-out>" in module("check", "--junit", "-", "e.max").out
     prints("compare - s/b.gr", "same\npairs: 0 only left, 0 only right, 5 in both, 0 of them different\n", given=ROADS)
     prints("compare - s/b.gr", "", f"-:1: 1 BadLine\n{X}", 2, given=b"x\n")
 
@@ -89,6 +96,10 @@ def test_words() -> None:
     }.items():  # fmt: skip
         prints(words, "", f"{line} (--help tells more)\n", 3)
     prints("check -- -x.gr", "-x.gr: accepted sp\n", "1 accepted, 0 refused, 0 failed\n")
+    write("b.gr", ROADS.replace(b"a 2 1 4", b"a 2 1 5"))
+    for limit, arcs in [("0", 0), ("1", 1)]:
+        found = module("compare", "--limit", limit, "a.gr", "b.gr")
+        assert (found.status, found.out.count(b"\n< ")) == (1, arcs), f"--limit {limit}"
     assert module("help", "check") == module("check", "--help") and module("help") == module("--help")
     for words in ["--help", "check --help", "--version"]:
         found = by_shell(f"dnorm {words} > /dev/full")
@@ -113,6 +124,9 @@ def test_own_names(tested: str) -> None:
     for word in ["13", "NodeOutOfRange"]:
         prints(f"explain {word}", f"13 NodeOutOfRange: {SENTENCES[13].strip()}\n")
     assert by_shell(f"{own} parts --lines 3 a.gr") == said(ROADS_CANON)
+    write("killed", "#!/bin/sh\nkill -9 $$\n", 0o755)
+    code = "from dnorm.commands import explain; explain.find_program = lambda: './killed'; "
+    assert python(f"{code}raise SystemExit(explain.main(['check', 'a.gr']))").status == 137, "a signal ended dnorm"
 
 
 def test_once() -> None:
@@ -152,6 +166,8 @@ def test_one_and_two() -> None:
     lines.append("c.GRZ: 31 Read (.grz is not supported)")
     count = "0 accepted, 0 refused, 3 failed\n3 other files: .md5 2, no ending 1; --strict refuses them\n"
     prints("check -q set", "".join(f"set/{it}\n" for it in lines), count, 4)
+    make({"two/a.gr": ROADS, "two/b": ROADS})
+    prints("check two two/b", "two/a.gr: accepted sp\ntwo/b: accepted sp\n", "2 accepted, 0 refused, 0 failed\n")
 
 
 def test_gone_folder() -> None:
@@ -175,6 +191,15 @@ def test_one_place() -> None:
         prints(f"manifest --verify list -q {path}", "", "2 the same, 0 different, 0 refused, 0 failed\n")
 
 
+def test_groups() -> None:
+    """`same` sorts the names of a group, also where a link comes before its file, and a page has all groups."""
+    make({"pool/m.gr": ROADS, "pool/z.gr": ROADS, "pool/n.min": COSTS, "pool/o.min": COSTS})
+    os.symlink("z.gr", "pool/a.gr")
+    count = "5 accepted, 0 refused, 0 failed, 2 groups, 1 link\n"
+    prints("same pool", "pool/m.gr\npool/z.gr\n\npool/n.min\npool/o.min\n", count)
+    assert module("look", "pool").out.count(b"<details><summary>pool/") == 2
+
+
 def test_twins() -> None:
     """A companion of -d or -t belongs to the graph of the other one, if there is none of its own name."""
     points = b"p aux sp co 1\nv 1 0 0\n"
@@ -187,6 +212,12 @@ def test_twins() -> None:
             "y-t.x.y.co": points,
         }
     )
+    os.mkdir("links")
+    for name in ["x-t.gr", "x-t.ss"]:
+        os.symlink(f"../{name}", f"links/{name}")
+    beside = "links/x-t.gr: accepted sp\nlinks/x-t.ss: accepted ss, fits links/x-t.gr\n"
+    prints("check --companions links/x-t.gr", beside, "2 accepted, 0 refused, 0 failed\n")
+    shutil.rmtree("links")
     found = module("check", "--companions", ".")
     lines = [it for it in found.out.decode().splitlines() if not it.endswith(": accepted sp")]
     assert lines == [

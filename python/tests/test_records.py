@@ -173,6 +173,9 @@ def test_changes() -> None:
     assert (found.new, found.gone, found.changed) == (("set/new.gr",), ("set/c.gr",), ("set/d.gr",))
     assert found.renamed == (("set/a.gr", "set/moved.gr"), ("set/b.gr", "set/also.gr"))
     assert found._repr_html_().count("<tr>") == 6
+    twins = (dnorm.Manifest(1, dict.fromkeys(names, ONES)) for names in ("ab", "cd"))
+    assert dnorm.manifest_changes(*twins).renamed == (("a", "c"), ("b", "d")), "two files of one problem"
+    assert dnorm.read_manifest(b"# form 1, 0 files\n").checksums == {}, "a manifest of an empty collection"
     one, two = dnorm.Manifest(1, {"a": ZEROS}), dnorm.Manifest(2, {"a": ZEROS})
     assert told(lambda: dnorm.manifest_changes(one, two)) == "ValueError: the manifests are of form 1 and of form 2"
     for text in ["", "x\n", f"{ZEROS}  a", f"# form 1, 2 files\n{ONES}  a\n"]:

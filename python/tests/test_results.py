@@ -320,13 +320,13 @@ class SlowLibrary:
 
     def __init__(self) -> None:
         self.freed = 0
-        self.begin = self.feed = lambda *_: Status()
+        self.dnorm_begin = self.dnorm_feed = lambda *_: Status()
 
-    def finish(self, _: object) -> Any:
+    def dnorm_finish(self, _: object) -> Any:
         time.sleep(1)
         return Status()
 
-    def free(self, _: object) -> None:
+    def dnorm_free(self, _: object) -> None:
         self.freed += 1
 
 

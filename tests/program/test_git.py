@@ -1,6 +1,8 @@
 """The scripts for git do in a repository what they say."""
 
+import bz2
 import gzip
+import lzma
 import os
 import re
 import shutil
@@ -38,6 +40,8 @@ class Repository:
         os.symlink(f"{ROOT}/bin/dnorm-files", f"{folder}/bin/dnorm-files")
         self.environment = {**os.environ, **OF_GIT, "PATH": f"{folder}/bin:{os.environ['PATH']}"}
         self.environment["DNORM_LIBRARY"] = f"{c_library}/lib/libdnorm.so.3"
+        self.temporary = self.environment["TMPDIR"] = f"{folder}/temporary"
+        os.mkdir(self.temporary)
         self.git("init", "-q")
         self.git("config", "diff.dnorm.textconv", f"{ROOT}/python/git/textconv")
         self.put(".gitattributes", b"*.gr diff=dnorm\n")
@@ -146,9 +150,13 @@ def test_textconv(repository: Repository) -> None:
     rows = [("-a b.gr", ROADS, ROADS_CANON), ("x.gr", b"a\0 1\n", b"a\0 1\n"), ("e", b"", b"")]
     rows += [("a.GR.GZ", gzip.compress(ROADS), ROADS_CANON), ("b.gr.gz", ROADS, ROADS_CANON)]
     rows += [("cut.gr.gz", cut, cut) for cut in [gzip.compress(ROADS)[:-9]]]
+    rows += [("c.gr.xz", lzma.compress(ROADS), ROADS_CANON), ("d.gr.bz2", bz2.compress(ROADS), ROADS_CANON)]
+    if shutil.which("zstd"):
+        rows.append(("e.gr.zst", run(["zstd", "-c"], ROADS).out, ROADS_CANON))
     for name, text, wanted in rows:
         write(f"{repository.top}/{name}", text)
         assert repository.run(f"{ROOT}/python/git/textconv", name) == Answer(wanted, b"", 0), f"textconv {name}"
+        assert os.listdir(repository.temporary) == [], f"a file that textconv {name} has left"
     write(f"{repository.top}/roads.gr", ROADS_CANON)
     repository.differs("the same problem", [])
     write(f"{repository.top}/roads.gr", ROADS.replace(b"a 2 1 4", b"a 2 1 5"))
@@ -192,6 +200,12 @@ def test_push(repository: Repository) -> None:
         found = repository.git("push", "-q", "../bare.git", f"HEAD:refs/heads/{branch}")
         assert (found.err, found.status) == (b"", 0), f"a push to {branch}"
     assert repository.git("push", "-q", "../bare.git", ":refs/heads/new").status == 0, "a branch that is removed"
+    repository.put("x.gr", b"x\n")
+    repository.git("commit", "-q", "--no-verify", "-m", "a refused text")
+    found = repository.git("push", "-q", "../bare.git", ":refs/heads/legacy", "HEAD:refs/heads/other")
+    assert found.status == 1, "a branch that is removed, and a refused text in another one"
+    repository.git("reset", "-q", "--hard", "HEAD~")
+    assert os.listdir(repository.temporary) == [], "a folder that the hook has left"
     repository.put("lone.co", b"p aux sp co 0\n")
     repository.commits("a companion alone", b"lone.co: accepted co, no graph\n" + ALONE)
     repository.git("-C", "../bare.git", "config", "dnorm.strict", "true")
@@ -214,6 +228,7 @@ HOSTILE: dict[str, tuple[dict[str, str], str]] = {
     "by a text": ({"d.gr": "{}", "x.gr": "d.gr/secret"}, OUT),
     "by another link": ({"a.gr": "/etc/passwd", "b.gr": "a.gr"}, OUT), "git": ({"g.gr": ".git/config"}, OUT),
     "git-annex": ({"g.gr": ".git/annex/objects/../../config"}, OUT), "a folder": ({"x.gr": "/etc"}, OUT),
+    "a folder of git": ({"x.gr": "{}/top/.git/hooks"}, OUT),
     "a graph of a companion": ({"roads.gr": "{}/pipe"}, OUT), "a loop": ({"l.gr": "l.gr"}, NOWHERE),
     "nothing": ({"l.gr": "nowhere"}, NOWHERE), "a long link": ({"l.gr": 5000 * "x/"}, ""),
     "an odd name": ({"\x1b[2J\n.gr": "/etc/passwd"}, OUT),

@@ -264,7 +264,7 @@ def links(made: Made, folder: str) -> None:
     """Each link in the pages below a folder leads to a file there, and that links to sources name them."""
     found = run([sys.executable, f"{ROOT}/tools/pages.py", folder])
     assert found == said(), "pages with links that lead nowhere"
-    for source in ["crates/dn_num/specs/Number.antt", "crates/dn_arc/specs/Meanings.antt"]:
+    for source in ["crates/dn_num/specs/Number.antt", "crates/dn_arc_theory/specs/Meanings.antt"]:
         assert f"(`{source}`)" in text_of(f"{folder}/docs/PROVED.md"), f"{folder}/docs/PROVED.md names {source}"
 
 

@@ -243,6 +243,14 @@ def test_compared(clone: Clone) -> None:
             finds(clone, "another source", "left out: the released program, which", 1, 0, 5)
     with clone.other("c/dnorm.map"):
         finds(clone, "another c/dnorm.map", "left out: the released library, which", 3, 0, 4)
+    clone.write("docs/PROVED.md", "- GNU ld, and what it links:\n  - `open` and `__divti3`\n- For the library for C\n")
+    table = "Cross Reference Table\n\nSymbol File\n"
+    for name, users in [("open", "build/dnorm.o"), ("__divti3", "k.a(o.o)\n build/dnorm.o"), ("exit", "libc.a(o.o)")]:
+        table += f"{name} lib.a({name}.o)\n {users}\n"
+    clone.write("build/static/dnorm.map", table)
+    finds(clone, "what the linker took", "", 7, 0, 3)
+    clone.write("build/static/dnorm.map", f"{table}close lib.a(close.o)\n build/dnorm.o\n")
+    finds(clone, "a function that the page does not list", "docs/PROVED.md does not list", 6, 1, 3)
 
 
 SCRIPTS = "check bin/install c/put c/link c/file/make tools/released tools/setup tools/lint tools/definitions"

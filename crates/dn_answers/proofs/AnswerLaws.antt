@@ -6,7 +6,7 @@ use Rattle.dn_instance.specs.Instances.{Instance, MinCostFlow, MaxFlow, Shortest
 use Rattle.dn_instance.specs.Validity.{IsValid}
 use Rattle.dn_instance.specs.Sameness.{IsSame}
 use Rattle.dn_answers.specs.Answers.{HaveSameAnswers, HasAnswersOf}
-use Rattle.dn_arc.specs.declared.arc.Form.{Form}
+use Rattle.dn_arc_theory.specs.declared.arc.Form.{Form}
 use Rattle.dn_instance.specs.Texts.{Reads}
 use Rattle.dn_instance.proofs.ValidLaws.{reads_valid}
 use Rattle.dn_canon.specs.CanonTexts.{IsCanonOf}

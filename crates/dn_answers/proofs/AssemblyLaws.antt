@@ -3,8 +3,8 @@ use Rattle.std.proofs.Common.{inl, inr, sym, ap, arith, ◌∙◌}
 use Rattle.std.proofs.lemmas.Bool.{cases_Bool}
 use Rattle.std.proofs.lemmas.Int.{ints}
 use Rattle.std.specs.Prelude.{◌≡◌, ℤ, pos, ◌+ℤ◌, ◌≤ℤ◌, List, [], ◌∷◌, Bool, true, cond, refl}
-use Rattle.dn_arc.specs.Pairs.{same_pair, bundle}
-use Rattle.dn_arc.proofs.PairLaws.{pair_is, pair_self}
+use Rattle.dn_arc_theory.specs.Pairs.{same_pair, bundle}
+use Rattle.dn_arc_theory.proofs.PairLaws.{pair_is, pair_self}
 use Rattle.dn_answers.specs.Flows.{IsWithin, units_on}
 use Rattle.dn_answers.proofs.SumLaws.{Entries, sum_on, sum_eq, sum_le}
 

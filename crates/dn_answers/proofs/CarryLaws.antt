@@ -4,13 +4,13 @@ use Rattle.std.proofs.lemmas.Int.{ints, by_lt_z}
 use Rattle.std.specs.Prelude.{◌≡◌, ◌↔◌, ℤ, pos, ◌-ℤ◌, ◌*ℤ◌, ◌≤ℤ◌, List, [], ◌∷◌, true, refl}
 use Rattle.std.specs.List.{AllByRecursion}
 use Rattle.std.specs.Int.Signed.{≤ℤ_refl}
-use Rattle.dn_arc.specs.declared.arc.CapArc.{CapArc}
-use Rattle.dn_arc.specs.declared.arc.CostArc.{CostArc}
-use Rattle.dn_arc.specs.Capacities.{total_cap}
-use Rattle.dn_arc.specs.Splits.{AreShares, total, cost_of}
-use Rattle.dn_arc.specs.Meanings.{SameTotal, SameCurve}
-use Rattle.dn_arc.specs.Canonical.{IsCapArc}
-use Rattle.dn_arc.proofs.SplitsLaws.{split_at_most, at_most_split, above}
+use Rattle.dn_arc_theory.specs.declared.arc.CapArc.{CapArc}
+use Rattle.dn_arc_theory.specs.declared.arc.CostArc.{CostArc}
+use Rattle.dn_arc_theory.specs.Capacities.{total_cap}
+use Rattle.dn_arc_theory.specs.Splits.{AreShares, total, cost_of}
+use Rattle.dn_arc_theory.specs.Meanings.{SameTotal, SameCurve}
+use Rattle.dn_arc_theory.specs.Canonical.{IsCapArc}
+use Rattle.dn_arc_theory.proofs.SplitsLaws.{split_at_most, at_most_split, above}
 use Rattle.dn_answers.proofs.AssemblyLaws.{Shares, weight, Carried}
 
 -- the units of an arc's number

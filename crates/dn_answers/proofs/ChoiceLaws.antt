@@ -5,17 +5,17 @@ use Rattle.std.proofs.lemmas.Bool.Decides.{Decides-int_eq, not_from_Decides}
 use Rattle.std.specs.Prelude.{◌≡◌, ◌≢◌, ◌↔◌, ◌⊎◌, ℤ, List, [], ◌∷◌, map, Bool, cond, refl}
 use Rattle.std.specs.List.{AllByRecursion}
 use Rattle.std.specs.Ordering.{int_eq}
-use Rattle.dn_arc.specs.declared.arc.LengthArc.{LengthArc}
-use Rattle.dn_arc.specs.declared.arc.CapArc.{CapArc}
-use Rattle.dn_arc.specs.declared.arc.CostArc.{CostArc}
-use Rattle.dn_arc.specs.State.Equivalences.{IsMeaning}
-use Rattle.dn_arc.specs.Canonical.{IsCapArc}
-use Rattle.dn_arc.specs.Kinds.{ArcKind, lengths, capacities, costs}
-use Rattle.dn_arc.specs.Pairs.{same_pair, bundle}
-use Rattle.dn_arc.proofs.PairLaws.{pair_is}
-use Rattle.dn_arc.proofs.LengthsLaws.{length_meaning}
-use Rattle.dn_arc.proofs.TotalsLaws.{total_meaning}
-use Rattle.dn_arc.proofs.CurvesLaws.{curve_meaning}
+use Rattle.dn_arc_theory.specs.declared.arc.LengthArc.{LengthArc}
+use Rattle.dn_arc_theory.specs.declared.arc.CapArc.{CapArc}
+use Rattle.dn_arc_theory.specs.declared.arc.CostArc.{CostArc}
+use Rattle.dn_arc_theory.specs.State.Equivalences.{IsMeaning}
+use Rattle.dn_arc_theory.specs.Canonical.{IsCapArc}
+use Rattle.dn_arc_theory.specs.Kinds.{ArcKind, lengths, capacities, costs}
+use Rattle.dn_arc_theory.specs.Pairs.{same_pair, bundle}
+use Rattle.dn_arc_theory.proofs.PairLaws.{pair_is}
+use Rattle.dn_arc_theory.proofs.LengthsLaws.{length_meaning}
+use Rattle.dn_arc_theory.proofs.TotalsLaws.{total_meaning}
+use Rattle.dn_arc_theory.proofs.CurvesLaws.{curve_meaning}
 use Rattle.dn_instance.specs.Instances.{Graph}
 use Rattle.dn_instance.specs.Validity.{IsNode, IsPlaced, IsValidGraph}
 use Rattle.dn_instance.specs.Sameness.{SameGraph}

@@ -6,7 +6,7 @@ use Rattle.std.proofs.lemmas.Bool.Decides.{Decides-int_eq}
 use Rattle.std.specs.Prelude.{◌≢◌, ℤ, pos, negsuc, ◌+ℤ◌, ◌≤ℤ◌, List, [], ◌∷◌, cond, refl}
 use Rattle.std.specs.List.{AllByRecursion}
 use Rattle.std.specs.Ordering.{int_eq}
-use Rattle.dn_arc.specs.declared.arc.LengthArc.{LengthArc}
+use Rattle.dn_arc_theory.specs.declared.arc.LengthArc.{LengthArc}
 use Rattle.dn_instance.specs.Instances.{MinCostFlow, MaxFlow, ShortestPaths}
 use Rattle.dn_answers.specs.Walks.{IsAmong, Leads, walk_length, IsWalk, HasWalkWithin, IsDistance}
 use Rattle.dn_answers.specs.Flows.{net_outflow}

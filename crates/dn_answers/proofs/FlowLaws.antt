@@ -6,13 +6,13 @@ use Rattle.std.proofs.lemmas.Int.{ints}
 use Rattle.std.specs.Prelude.{◌≡◌, ◌↔◌, ℤ, ◌≤ℤ◌, List, [], ◌∷◌, true, refl}
 use Rattle.std.specs.List.{AllByRecursion}
 use Rattle.std.specs.Ordering.{int_eq}
-use Rattle.dn_arc.specs.declared.arc.CapArc.{CapArc}
-use Rattle.dn_arc.specs.declared.arc.CostArc.{CostArc}
-use Rattle.dn_arc.specs.Canonical.{IsCapArc}
-use Rattle.dn_arc.specs.Kinds.{capacities, costs}
-use Rattle.dn_arc.specs.Pairs.{same_pair, bundle}
-use Rattle.dn_arc.proofs.TotalsLaws.{total_meaning}
-use Rattle.dn_arc.proofs.CurvesLaws.{curve_meaning}
+use Rattle.dn_arc_theory.specs.declared.arc.CapArc.{CapArc}
+use Rattle.dn_arc_theory.specs.declared.arc.CostArc.{CostArc}
+use Rattle.dn_arc_theory.specs.Canonical.{IsCapArc}
+use Rattle.dn_arc_theory.specs.Kinds.{capacities, costs}
+use Rattle.dn_arc_theory.specs.Pairs.{same_pair, bundle}
+use Rattle.dn_arc_theory.proofs.TotalsLaws.{total_meaning}
+use Rattle.dn_arc_theory.proofs.CurvesLaws.{curve_meaning}
 use Rattle.dn_instance.specs.Instances.{Graph}
 use Rattle.dn_instance.specs.Validity.{IsPlaced}
 use Rattle.dn_instance.specs.Sameness.{SameGraph}

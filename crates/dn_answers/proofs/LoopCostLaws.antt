@@ -6,12 +6,12 @@ use Rattle.std.proofs.lemmas.Bool.Decides.{Decides-int_eq, not_from_Decides}
 use Rattle.std.specs.Prelude.{◌≡◌, ◌≢◌, ◌↔◌, ℤ, pos, ◌-ℤ◌, ◌*ℤ◌, ◌≤ℤ◌, List, [], ◌∷◌, Bool, true, false, cond, refl}
 use Rattle.std.specs.Int.Signed.{≤ℤ_refl}
 use Rattle.std.specs.Ordering.{int_eq}
-use Rattle.dn_arc.specs.declared.arc.CostArc.{CostArc}
-use Rattle.dn_arc.specs.Meanings.{SameCurve}
-use Rattle.dn_arc.specs.Pairs.{bundle}
-use Rattle.dn_arc.specs.Splits.{AreShares, total, cost_of}
-use Rattle.dn_arc.proofs.CurvesLaws.{curve_meaning}
-use Rattle.dn_arc.proofs.ProductsLaws.{mul_sub, mul_mono}
+use Rattle.dn_arc_theory.specs.declared.arc.CostArc.{CostArc}
+use Rattle.dn_arc_theory.specs.Meanings.{SameCurve}
+use Rattle.dn_arc_theory.specs.Pairs.{bundle}
+use Rattle.dn_arc_theory.specs.Splits.{AreShares, total, cost_of}
+use Rattle.dn_arc_theory.proofs.CurvesLaws.{curve_meaning}
+use Rattle.dn_arc_theory.proofs.ProductsLaws.{mul_sub, mul_mono}
 use Rattle.dn_instance.specs.Instances.{Graph}
 use Rattle.dn_answers.specs.Flows.{units_on, net_outflow}
 use Rattle.dn_answers.specs.MinCostFlows.{HasFlowWithin, IsLeastCost}

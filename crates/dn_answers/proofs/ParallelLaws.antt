@@ -8,14 +8,14 @@ use Rattle.std.specs.Prelude.{◌≡◌, ◌≢◌, ◌↔◌, ℤ, pos, ◌+ℤ
 use Rattle.std.specs.List.{AllByRecursion}
 use Rattle.std.specs.Int.Signed.{≤ℤ_refl}
 use Rattle.std.specs.Ordering.{int_eq}
-use Rattle.dn_arc.specs.declared.arc.LengthArc.{LengthArc}
-use Rattle.dn_arc.specs.declared.arc.CapArc.{CapArc}
-use Rattle.dn_arc.specs.declared.arc.CostArc.{CostArc}
-use Rattle.dn_arc.specs.Lengths.{HasLength, LeastLength}
-use Rattle.dn_arc.specs.Capacities.{total_cap}
-use Rattle.dn_arc.specs.Splits.{IsSplit, cost_of, LeastCost}
-use Rattle.dn_arc.specs.Meanings.{SameLength, SameTotal, SameCurve}
-use Rattle.dn_arc.specs.Canonical.{IsCapArc}
+use Rattle.dn_arc_theory.specs.declared.arc.LengthArc.{LengthArc}
+use Rattle.dn_arc_theory.specs.declared.arc.CapArc.{CapArc}
+use Rattle.dn_arc_theory.specs.declared.arc.CostArc.{CostArc}
+use Rattle.dn_arc_theory.specs.Lengths.{HasLength, LeastLength}
+use Rattle.dn_arc_theory.specs.Capacities.{total_cap}
+use Rattle.dn_arc_theory.specs.Splits.{IsSplit, cost_of, LeastCost}
+use Rattle.dn_arc_theory.specs.Meanings.{SameLength, SameTotal, SameCurve}
+use Rattle.dn_arc_theory.specs.Canonical.{IsCapArc}
 use Rattle.dn_instance.specs.Validity.{IsNode}
 use Rattle.dn_answers.specs.Walks.{IsAmong, IsWalk, walk_length, IsDistance}
 use Rattle.dn_answers.specs.Flows.{IsWithin, units_on, net_outflow}
@@ -26,9 +26,9 @@ use Rattle.dn_answers.proofs.AssemblyLaws.{Shares, weight}
 use Rattle.dn_answers.proofs.CarryLaws.{units, cap_low, cap_high, cap_most, some_total, filled, cost_low, cost_high, cost_shares, units_total}
 use Rattle.dn_answers.proofs.SumLaws.{cond_none, cond_add}
 use Rattle.dn_answers.proofs.WalkLaws.{found_in, no_shorter}
-use Rattle.dn_arc.specs.Pairs.{bundle}
-use Rattle.dn_arc.proofs.PairLaws.{pair_self}
-use Rattle.dn_arc.proofs.SplitsLaws.{antisym}
+use Rattle.dn_arc_theory.specs.Pairs.{bundle}
+use Rattle.dn_arc_theory.proofs.PairLaws.{pair_self}
+use Rattle.dn_arc_theory.proofs.SplitsLaws.{antisym}
 
 -- the arcs as arcs of p
 abbrev placed : {Arc : Type 0} → ℤ × ℤ → List Arc → List ((ℤ × ℤ) × Arc)

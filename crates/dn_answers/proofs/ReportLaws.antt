@@ -1,13 +1,13 @@
 -- At a pair of two different nodes, the first difference is what the problems of its arcs alone have as answers.
 use Rattle.std.proofs.Common.{inl, inr}
 use Rattle.std.specs.Prelude.{◌≡◌, ◌≢◌, ◌⊎◌, ℤ, List, [], Option, Some, None}
-use Rattle.dn_arc.specs.declared.arc.LengthArc.{LengthArc}
-use Rattle.dn_arc.specs.declared.arc.CostArc.{CostArc}
-use Rattle.dn_arc.specs.declared.difference.How.{How}
-use Rattle.dn_arc.specs.declared.difference.How.TheVariants.{Lengths, Totals, Costs}
-use Rattle.dn_arc.specs.Differences.{IsLengthOf, IsCostOf}
-use Rattle.dn_arc.specs.Pairs.{bundle}
-use Rattle.dn_arc.proofs.SplitsLaws.{some_least}
+use Rattle.dn_arc_theory.specs.declared.arc.LengthArc.{LengthArc}
+use Rattle.dn_arc_theory.specs.declared.arc.CostArc.{CostArc}
+use Rattle.dn_arc_theory.specs.declared.difference.How.{How}
+use Rattle.dn_arc_theory.specs.declared.difference.How.TheVariants.{Lengths, Totals, Costs}
+use Rattle.dn_arc_theory.specs.Differences.{IsLengthOf, IsCostOf}
+use Rattle.dn_arc_theory.specs.Pairs.{bundle}
+use Rattle.dn_arc_theory.proofs.SplitsLaws.{some_least}
 use Rattle.dn_instance.specs.Instances.{Instance, MinCostFlow, MaxFlow, ShortestPaths}
 use Rattle.dn_instance.specs.Validity.{IsNode, IsValid}
 use Rattle.dn_instance.specs.declared.verdict.Verdict.TheVariants as Verdicts

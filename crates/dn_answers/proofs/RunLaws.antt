@@ -1,6 +1,6 @@
 -- What a run of `canon` has written has the answers of its input.
 use Rattle.std.proofs.Common.{◌≡◌, ℕ, List, Option, Some, refl, inl, inr}
-use Rattle.dn_arc.specs.declared.arc.Form.{Form}
+use Rattle.dn_arc_theory.specs.declared.arc.Form.{Form}
 use Rattle.dn_command.specs.Commands.{Canon, Compare, plain_asked}
 use Rattle.dn_instance.proofs.ValidLaws.{reads_valid}
 use Rattle.dn_run.specs.Statuses.{AreBoth, AreBytes, EndsAs, wrote, faulty, failed, wrote_both, one_faulty, unfit, failed_two, RanPlain}

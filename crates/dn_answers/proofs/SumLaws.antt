@@ -4,8 +4,8 @@ use Rattle.std.proofs.Common.{inl, inr, arith}
 use Rattle.std.proofs.lemmas.Bool.{cases_Bool, cond_both}
 use Rattle.std.proofs.lemmas.Int.{ints}
 use Rattle.std.specs.Prelude.{◌≡◌, ℕ, suc, zero, ◌≤◌, ℤ, pos, ◌+ℤ◌, ◌-ℤ◌, ◌≤ℤ◌, List, [], ◌∷◌, ◌++◌, length, Bool, true, false, cond, refl}
-use Rattle.dn_arc.specs.Pairs.{same_pair}
-use Rattle.dn_arc.proofs.PairLaws.{pair_is, pair_self}
+use Rattle.dn_arc_theory.specs.Pairs.{same_pair}
+use Rattle.dn_arc_theory.proofs.PairLaws.{pair_is, pair_self}
 
 abbrev pub Entries : Type 0
 Entries = List ((ℤ × ℤ) × ℤ)

@@ -5,14 +5,14 @@ use Rattle.std.proofs.lemmas.Bool.{cases_Bool}
 use Rattle.std.proofs.lemmas.Int.{ints}
 use Rattle.std.specs.Prelude.{◌≡◌, ℤ, ◌≤ℤ◌, List, [], ◌∷◌, map, refl, ◌↔◌}
 use Rattle.std.specs.List.{AllByRecursion}
-use Rattle.dn_arc.specs.declared.arc.LengthArc.{LengthArc}
-use Rattle.dn_arc.specs.Lengths.{HasLength}
-use Rattle.dn_arc.specs.Meanings.{SameLength}
-use Rattle.dn_arc.specs.Pairs.{same_pair, bundle}
-use Rattle.dn_arc.proofs.LengthsLaws.{least_of, length_meaning}
-use Rattle.dn_arc.proofs.PairLaws.{pair_is, pair_self}
+use Rattle.dn_arc_theory.specs.declared.arc.LengthArc.{LengthArc}
+use Rattle.dn_arc_theory.specs.Lengths.{HasLength}
+use Rattle.dn_arc_theory.specs.Meanings.{SameLength}
+use Rattle.dn_arc_theory.specs.Pairs.{same_pair, bundle}
+use Rattle.dn_arc_theory.proofs.LengthsLaws.{least_of, length_meaning}
+use Rattle.dn_arc_theory.proofs.PairLaws.{pair_is, pair_self}
 use Rattle.dn_answers.specs.Walks.{IsAmong, Leads, walk_length, IsWalk, HasMatchingWalk, HasWalkWithin, IsDistance}
-use Rattle.dn_arc.specs.Kinds.{lengths}
+use Rattle.dn_arc_theory.specs.Kinds.{lengths}
 use Rattle.dn_instance.specs.Instances.{Graph}
 use Rattle.dn_instance.specs.Sameness.{SameGraph}
 use Rattle.dn_instance.proofs.SameLaws.{graph_sym}

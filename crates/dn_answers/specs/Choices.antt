@@ -1,6 +1,6 @@
 -- Graphs in which the arcs of some ordered pairs are kept and all others are deleted (this project's profile).
 use Rattle.std.specs.Prelude.{◌≡◌, ℤ, List, [], ◌∷◌, Bool, cond}
-use Rattle.dn_arc.specs.Pairs.{bundle}
+use Rattle.dn_arc_theory.specs.Pairs.{bundle}
 use Rattle.dn_instance.specs.Instances.{Graph}
 
 -- the arcs of the chosen ordered pairs

@@ -2,11 +2,11 @@
 use Rattle.std.specs.Prelude.{◌≡◌, ◌≢◌, ◌↔◌, ℤ, pos, ◌≤ℤ◌, List, [], ◌∷◌, cond}
 use Rattle.std.specs.List.{AllByRecursion}
 use Rattle.std.specs.Ordering.{int_eq}
-use Rattle.dn_arc.specs.Meanings.{SameCurve}
-use Rattle.dn_arc.specs.Pairs.{bundle}
-use Rattle.dn_arc.specs.Splits.{LeastCost}
-use Rattle.dn_arc.specs.declared.arc.LengthArc.{LengthArc}
-use Rattle.dn_arc.specs.declared.arc.CostArc.{CostArc}
+use Rattle.dn_arc_theory.specs.Meanings.{SameCurve}
+use Rattle.dn_arc_theory.specs.Pairs.{bundle}
+use Rattle.dn_arc_theory.specs.Splits.{LeastCost}
+use Rattle.dn_arc_theory.specs.declared.arc.LengthArc.{LengthArc}
+use Rattle.dn_arc_theory.specs.declared.arc.CostArc.{CostArc}
 use Rattle.dn_instance.specs.Instances.{Graph}
 
 -- the arcs whose tail is not their head

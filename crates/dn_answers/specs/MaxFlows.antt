@@ -1,7 +1,7 @@
 -- Flows of a `max` problem, their values and the greatest of these (Ahuja, Magnanti and Orlin, Network Flows: the
 -- maximum flow problem; First DIMACS Challenge, network flow format: source, sink and CAP).
 use Rattle.std.specs.Prelude.{◌≡◌, ◌≢◌, ℤ, pos, ◌≤ℤ◌, List}
-use Rattle.dn_arc.specs.declared.arc.CapArc.{CapArc}
+use Rattle.dn_arc_theory.specs.declared.arc.CapArc.{CapArc}
 use Rattle.dn_instance.specs.Instances.{Graph}
 use Rattle.dn_answers.specs.Flows.{IsWithin, net_outflow, HaveSameUnits}
 

@@ -2,7 +2,7 @@
 -- minimum cost flow problem; First DIMACS Challenge, network flow format: supplies and demands, LOW, CAP and COST).
 use Rattle.std.specs.Prelude.{◌≡◌, ℤ, pos, ◌+ℤ◌, ◌*ℤ◌, ◌≤ℤ◌, List, [], ◌∷◌, cond}
 use Rattle.std.specs.Ordering.{int_eq}
-use Rattle.dn_arc.specs.declared.arc.CostArc.{CostArc}
+use Rattle.dn_arc_theory.specs.declared.arc.CostArc.{CostArc}
 use Rattle.dn_instance.specs.Instances.{Graph}
 use Rattle.dn_answers.specs.Flows.{IsWithin, net_outflow, HaveSameUnits}
 

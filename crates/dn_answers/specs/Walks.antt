@@ -2,7 +2,7 @@
 -- shortest; Ninth DIMACS Challenge, shortest-path formats: the graph).
 use Rattle.std.specs.Prelude.{◌≡◌, ◌⊎◌, ℤ, pos, ◌+ℤ◌, ◌≤ℤ◌, List, [], ◌∷◌, map}
 use Rattle.std.specs.List.{AllByRecursion}
-use Rattle.dn_arc.specs.declared.arc.LengthArc.{LengthArc}
+use Rattle.dn_arc_theory.specs.declared.arc.LengthArc.{LengthArc}
 use Rattle.dn_instance.specs.Instances.{Graph}
 use Rattle.dn_instance.specs.Validity.{IsNode}
 

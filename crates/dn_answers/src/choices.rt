@@ -1,10 +1,10 @@
 // Graphs with some arcs deleted: sameness is exactly what no solver can tell apart.
 ghost use Rattle.std.specs.Prelude.{◌≡◌, ◌↔◌, ℤ, List, Bool};
-ghost use Rattle.dn_arc.specs.declared.arc.LengthArc.{LengthArc};
-ghost use Rattle.dn_arc.specs.declared.arc.CapArc.{CapArc};
-ghost use Rattle.dn_arc.specs.declared.arc.CostArc.{CostArc};
-ghost use Rattle.dn_arc.specs.Kinds.{lengths, capacities};
-ghost use Rattle.dn_arc.specs.Meanings.{SameLength, SameTotal, SameCurve};
+ghost use Rattle.dn_arc_theory.specs.declared.arc.LengthArc.{LengthArc};
+ghost use Rattle.dn_arc_theory.specs.declared.arc.CapArc.{CapArc};
+ghost use Rattle.dn_arc_theory.specs.declared.arc.CostArc.{CostArc};
+ghost use Rattle.dn_arc_theory.specs.Kinds.{lengths, capacities};
+ghost use Rattle.dn_arc_theory.specs.Meanings.{SameLength, SameTotal, SameCurve};
 ghost use Rattle.dn_instance.specs.Instances.{Graph};
 ghost use Rattle.dn_instance.specs.Validity.{IsValidGraph};
 ghost use Rattle.dn_instance.specs.Sameness.{SameGraph};

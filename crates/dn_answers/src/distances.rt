@@ -1,7 +1,7 @@
 // Walks and distances in `sp` graphs that mean the same.
 ghost use Rattle.std.specs.Prelude.{◌↔◌, ℤ, List};
-ghost use Rattle.dn_arc.specs.declared.arc.LengthArc.{LengthArc};
-ghost use Rattle.dn_arc.specs.Meanings.{SameLength};
+ghost use Rattle.dn_arc_theory.specs.declared.arc.LengthArc.{LengthArc};
+ghost use Rattle.dn_arc_theory.specs.Meanings.{SameLength};
 ghost use Rattle.dn_instance.specs.Instances.{Graph};
 ghost use Rattle.dn_instance.specs.Sameness.{SameGraph};
 ghost use Rattle.dn_answers.specs.Walks.{IsWalk, HasMatchingWalk, HasWalkWithin, IsDistance};

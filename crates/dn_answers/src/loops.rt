@@ -1,10 +1,10 @@
 // What self-loops change.
 ghost use Rattle.std.specs.Prelude.{◌↔◌, ℤ, List};
 ghost use Rattle.std.specs.List.{AllByRecursion};
-ghost use Rattle.dn_arc.specs.declared.arc.LengthArc.{LengthArc};
-ghost use Rattle.dn_arc.specs.declared.arc.CapArc.{CapArc};
-ghost use Rattle.dn_arc.specs.declared.arc.CostArc.{CostArc};
-ghost use Rattle.dn_arc.specs.Canonical.{IsCapArc};
+ghost use Rattle.dn_arc_theory.specs.declared.arc.LengthArc.{LengthArc};
+ghost use Rattle.dn_arc_theory.specs.declared.arc.CapArc.{CapArc};
+ghost use Rattle.dn_arc_theory.specs.declared.arc.CostArc.{CostArc};
+ghost use Rattle.dn_arc_theory.specs.Canonical.{IsCapArc};
 ghost use Rattle.dn_instance.specs.Instances.{Graph};
 ghost use Rattle.dn_answers.specs.Walks.{HasWalkWithin, IsDistance};
 ghost use Rattle.dn_answers.specs.MaxFlows.{HasValue};

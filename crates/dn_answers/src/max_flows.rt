@@ -1,9 +1,9 @@
 // Flows in `max` graphs that mean the same.
 ghost use Rattle.std.specs.Prelude.{◌↔◌, ℤ, List};
 ghost use Rattle.std.specs.List.{AllByRecursion};
-ghost use Rattle.dn_arc.specs.declared.arc.CapArc.{CapArc};
-ghost use Rattle.dn_arc.specs.Canonical.{IsCapArc};
-ghost use Rattle.dn_arc.specs.Meanings.{SameTotal};
+ghost use Rattle.dn_arc_theory.specs.declared.arc.CapArc.{CapArc};
+ghost use Rattle.dn_arc_theory.specs.Canonical.{IsCapArc};
+ghost use Rattle.dn_arc_theory.specs.Meanings.{SameTotal};
 ghost use Rattle.dn_instance.specs.Instances.{Graph};
 ghost use Rattle.dn_instance.specs.Sameness.{SameGraph};
 ghost use Rattle.dn_answers.specs.MaxFlows.{IsFlow, HasMatchingFlow, HasValue, IsGreatestValue};

@@ -1,7 +1,7 @@
 // Feasible flows in `min` graphs that mean the same.
 ghost use Rattle.std.specs.Prelude.{◌↔◌, ℤ, List};
-ghost use Rattle.dn_arc.specs.declared.arc.CostArc.{CostArc};
-ghost use Rattle.dn_arc.specs.Meanings.{SameCurve};
+ghost use Rattle.dn_arc_theory.specs.declared.arc.CostArc.{CostArc};
+ghost use Rattle.dn_arc_theory.specs.Meanings.{SameCurve};
 ghost use Rattle.dn_instance.specs.Instances.{Graph};
 ghost use Rattle.dn_instance.specs.Sameness.{SameGraph};
 ghost use Rattle.dn_answers.specs.MinCostFlows.{IsFeasible, HasMatchingFeasible, HasFlowWithin, IsLeastCost};

@@ -1,15 +1,15 @@
 // Parallel arcs alone: what they mean is the answer to the problem that they pose.
 ghost use Rattle.std.specs.Prelude.{◌≡◌, ◌≢◌, ◌↔◌, ℤ, List};
 ghost use Rattle.std.specs.List.{AllByRecursion};
-ghost use Rattle.dn_arc.specs.declared.arc.LengthArc.{LengthArc};
-ghost use Rattle.dn_arc.specs.declared.arc.CapArc.{CapArc};
-ghost use Rattle.dn_arc.specs.declared.arc.CostArc.{CostArc};
-ghost use Rattle.dn_arc.specs.declared.difference.How.{How};
-ghost use Rattle.dn_arc.specs.Lengths.{LeastLength};
-ghost use Rattle.dn_arc.specs.Capacities.{total_cap};
-ghost use Rattle.dn_arc.specs.Splits.{LeastCost};
-ghost use Rattle.dn_arc.specs.Meanings.{SameLength, SameTotal, SameCurve};
-ghost use Rattle.dn_arc.specs.Canonical.{IsCapArc};
+ghost use Rattle.dn_arc_theory.specs.declared.arc.LengthArc.{LengthArc};
+ghost use Rattle.dn_arc_theory.specs.declared.arc.CapArc.{CapArc};
+ghost use Rattle.dn_arc_theory.specs.declared.arc.CostArc.{CostArc};
+ghost use Rattle.dn_arc_theory.specs.declared.difference.How.{How};
+ghost use Rattle.dn_arc_theory.specs.Lengths.{LeastLength};
+ghost use Rattle.dn_arc_theory.specs.Capacities.{total_cap};
+ghost use Rattle.dn_arc_theory.specs.Splits.{LeastCost};
+ghost use Rattle.dn_arc_theory.specs.Meanings.{SameLength, SameTotal, SameCurve};
+ghost use Rattle.dn_arc_theory.specs.Canonical.{IsCapArc};
 ghost use Rattle.dn_instance.specs.Instances.{Instance};
 ghost use Rattle.dn_instance.specs.Validity.{IsNode, IsValid};
 ghost use Rattle.dn_instance.specs.declared.verdict.Verdict.{Verdict};

@@ -18,7 +18,8 @@ use Rattle.dn_line.proofs.FaultLaws.{head_then_fields}
 use Rattle.dn_line.proofs.RowLaws.{row_item}
 use Rattle.dn_instance.specs.TextFaults.{is_too_long}
 use Rattle.dn_instance.specs.State.TextsSoFar.{AreInner, closed_lines}
-use Rattle.dn_instance.proofs.RowLinesLaws.{before_front}
+use Rattle.std.proofs.Math.Nat.{add-sub_cancel}
+use Rattle.std.proofs.Math.Seq.{take-append_seam}
 use Rattle.dn_arc_lines.specs.State.ArcLines.{arc_line_in, arc_lines_from, fault_from, read_by_itself}
 use Rattle.dn_arc_lines.specs.State.Reading.{HasLines, TakesLines, arc_line_of_row, kind_after, numbered}
 use Rattle.dn_arc_lines.specs.declared.arc_line.ArcLine.{ArcLine}
@@ -128,6 +129,10 @@ not_more kind letter bytes rest [] u = omega (arith, ap length u)
 not_more kind letter bytes rest (r ∷ rows) u =
     let b = u.1.begins in
     omega (arith, not_more kind letter u.0 rest rows u.2, ap length b.whole, length-append b.line (10 ∷ u.0))
+
+-- the bytes before the rest
+before_front : (a b c : List ℕ) → a ++ b ≡ c → take (length c - length b) c ≡ a
+before_front a b c e = rw (← e, length-append a b, add-sub_cancel (length a) (length b)) (take-append_seam a b)
 
 -- the reader has taken the lines of these rows
 pub takes : (old new : ArcLines) (kind : Kind) (ls : List (List ℕ)) (bytes rest : List ℕ) (rows : List RowLine)

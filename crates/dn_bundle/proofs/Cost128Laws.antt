@@ -3,8 +3,8 @@ use Rattle.std.proofs.Common.{refl, ◌≡◌, ◌-◌, ◌^◌, ap, ◌∙◌, 
 use borrow.Author.Gap.{read_sfits}
 use Rattle.std.proofs.lemmas.Int.{ints, to_z-of_z, fits_signed_mul}
 use Rattle.std.specs.Int.{w128, int_div_euclid, int_rem_euclid, IsNonZero}
-use Rattle.dn_arc.specs.State.Means.{IsMean, IsFloor}
-use Rattle.dn_arc.proofs.MeansLaws.{floor_of, each_fits, more_mean, cost_fits}
+use Rattle.dn_arc_theory.specs.State.Means.{IsMean, IsFloor}
+use Rattle.dn_arc_theory.proofs.MeansLaws.{floor_of, each_fits, more_mean, cost_fits}
 
 -- a number of 64 bits does not change in a conversion to 128 bits
 wide_fits : (x : ℤ) → FitsSigned w64 x → FitsSigned w128 x

@@ -3,20 +3,20 @@
 use Rattle.std.proofs.Common.{◌≡◌, ℕ, ◌+◌, ℤ, pos, ◌<ℤ◌, List, [], ◌∷◌, ◌++◌, map, filter, length, refl, sym, ap, ◌∙◌, arith, w64, of_z, cond, FitsSigned, int_lt}
 use Rattle.std.specs.List.{AllByRecursion}
 use Rattle.std.proofs.lemmas.Int.{ints, by_lt_z}
-use Rattle.dn_arc.specs.declared.arc.CostArc.{CostArc}
-use Rattle.dn_arc.specs.declared.arc.Form.TheVariants.{One}
-use Rattle.dn_arc.specs.Meanings.{SameCurve}
-use Rattle.dn_arc.specs.Canonical.{IsFixedArc, has_low}
-use Rattle.dn_arc.specs.Entries.{cost_entries, free_costs}
-use Rattle.dn_arc.specs.State.FillCosts.{room}
-use Rattle.dn_arc.specs.State.Steps.{put_step, AreSteps, steps_room}
-use Rattle.dn_arc.specs.State.CurveListed.{step_arc, fixed_arcs, listed, IsSound, is_free}
-use Rattle.dn_arc.proofs.CurvesLaws.{curve_meaning, cost_cap_same}
-use Rattle.dn_arc.proofs.PartsLaws.{test_yes, test_no}
-use Rattle.dn_arc.proofs.StepArcsLaws.{steps_some}
-use Rattle.dn_arc.proofs.CanonsLaws.{arc_steps, count_costs, entries_are}
-use Rattle.dn_arc.proofs.ListedLaws.{carried, listed_units, steps_low}
-use Rattle.dn_arc.proofs.SoundLaws.{none_is, sound_cap, sound_arcs}
+use Rattle.dn_arc_theory.specs.declared.arc.CostArc.{CostArc}
+use Rattle.dn_arc_theory.specs.declared.arc.Form.TheVariants.{One}
+use Rattle.dn_arc_theory.specs.Meanings.{SameCurve}
+use Rattle.dn_arc_theory.specs.Canonical.{IsFixedArc, has_low}
+use Rattle.dn_arc_theory.specs.Entries.{cost_entries, free_costs}
+use Rattle.dn_arc_theory.specs.State.FillCosts.{room}
+use Rattle.dn_arc_theory.specs.State.Steps.{put_step, AreSteps, steps_room}
+use Rattle.dn_arc_theory.specs.State.CurveListed.{step_arc, fixed_arcs, listed, IsSound, is_free}
+use Rattle.dn_arc_theory.proofs.CurvesLaws.{curve_meaning, cost_cap_same}
+use Rattle.dn_arc_theory.proofs.PartsLaws.{test_yes, test_no}
+use Rattle.dn_arc_theory.proofs.StepArcsLaws.{steps_some}
+use Rattle.dn_arc_theory.proofs.CanonsLaws.{arc_steps, count_costs, entries_are}
+use Rattle.dn_arc_theory.proofs.ListedLaws.{carried, listed_units, steps_low}
+use Rattle.dn_arc_theory.proofs.SoundLaws.{none_is, sound_cap, sound_arcs}
 use Rattle.dn_bundle.proofs.FixedLaws.{is_zero, not_zero}
 
 steps_free : (steps : List (ℤ × ℤ)) → filter is_free (map step_arc steps) ≡ map step_arc steps

@@ -2,12 +2,12 @@
 -- definition.
 use Rattle.std.proofs.Common.{◌≡◌, ℤ, pos, negsuc, ◌+ℤ◌, ◌-ℤ◌, ◌≤ℤ◌, ◌<ℤ◌, [], ◌∷◌, ◌-◌, ◌^◌, sym, ap, ◌∙◌, arith, w64, to_z, of_z, FitsSigned}
 use Rattle.std.proofs.lemmas.Int.{ints, to_z-of_z}
-use Rattle.dn_arc.specs.State.Means.{IsMean, IsFloor}
-use Rattle.dn_arc.proofs.MeansLaws.{fits_some, each_next}
-use Rattle.dn_arc.specs.State.CurveListed.{fixed_arc, spread_arcs, fixed_arcs}
-use Rattle.dn_arc.proofs.FormOneLaws.{fixed_same}
-use Rattle.dn_arc.proofs.PartsLaws.{test_yes, test_no}
-use Rattle.dn_arc.proofs.ListedLaws.{spread_carries, fixed_carries}
+use Rattle.dn_arc_theory.specs.State.Means.{IsMean, IsFloor}
+use Rattle.dn_arc_theory.proofs.MeansLaws.{fits_some, each_next}
+use Rattle.dn_arc_theory.specs.State.CurveListed.{fixed_arc, spread_arcs, fixed_arcs}
+use Rattle.dn_arc_theory.proofs.FormOneLaws.{fixed_same}
+use Rattle.dn_arc_theory.proofs.PartsLaws.{test_yes, test_no}
+use Rattle.dn_arc_theory.proofs.ListedLaws.{spread_carries, fixed_carries}
 
 -- the quotient and the remainder of the cost determine the fixed arcs
 floor_arcs : (units cost each rest : ℤ) → pos 0 <ℤ units → IsFloor cost units each rest

@@ -6,19 +6,19 @@ use Rattle.std.specs.Int.Signed.{≤ℤ_refl}
 use Rattle.std.proofs.lemmas.Bool.{cases_Bool}
 use Rattle.std.proofs.lemmas.Int.{ints, by_lt_z, to_z-of_z}
 use Rattle.std.proofs.lemmas.List.Elements.{All-contains_itself, Contains-append_left, Contains-append_right, recursion_from_All}
-use Rattle.dn_arc.specs.declared.arc.CostArc.{CostArc}
-use Rattle.dn_arc.specs.declared.arc.Form.TheVariants.{One, Two}
-use Rattle.dn_arc.specs.Canonical.{IsFixedArc, AreNear, AreRising}
-use Rattle.dn_arc.specs.Fillings.{forced_units}
-use Rattle.dn_arc.specs.State.Steps.{step_past, AreSteps, steps_room}
-use Rattle.dn_arc.specs.State.CurveListed.{fixed_arc, step_arc, fixed_arcs, join_arc, join_arcs, joined_head, listed, IsSound}
-use Rattle.dn_arc.proofs.FormsLaws.{AreAbove, AreFixed}
-use Rattle.dn_arc.proofs.PartsLaws.{test_yes, test_no}
-use Rattle.dn_arc.proofs.MeansLaws.{fits_some, fits_next}
-use Rattle.dn_arc.proofs.StepArcsLaws.{free_arcs, steps_some}
-use Rattle.dn_arc.proofs.JoinsLaws.{joined}
-use Rattle.dn_arc.proofs.ListedLaws.{Carries, carried, listed_two}
-use Rattle.dn_arc.proofs.SoundLaws.{none_is}
+use Rattle.dn_arc_theory.specs.declared.arc.CostArc.{CostArc}
+use Rattle.dn_arc_theory.specs.declared.arc.Form.TheVariants.{One, Two}
+use Rattle.dn_arc_theory.specs.Canonical.{IsFixedArc, AreNear, AreRising}
+use Rattle.dn_arc_theory.specs.Fillings.{forced_units}
+use Rattle.dn_arc_theory.specs.State.Steps.{step_past, AreSteps, steps_room}
+use Rattle.dn_arc_theory.specs.State.CurveListed.{fixed_arc, step_arc, fixed_arcs, join_arc, join_arcs, joined_head, listed, IsSound}
+use Rattle.dn_arc_theory.proofs.FormsLaws.{AreAbove, AreFixed}
+use Rattle.dn_arc_theory.proofs.PartsLaws.{test_yes, test_no}
+use Rattle.dn_arc_theory.proofs.MeansLaws.{fits_some, fits_next}
+use Rattle.dn_arc_theory.proofs.StepArcsLaws.{free_arcs, steps_some}
+use Rattle.dn_arc_theory.proofs.JoinsLaws.{joined}
+use Rattle.dn_arc_theory.proofs.ListedLaws.{Carries, carried, listed_two}
+use Rattle.dn_arc_theory.proofs.SoundLaws.{none_is}
 use Rattle.dn_bundle.proofs.StepLaws.{less, not_less}
 
 -- the first arc above a cost

@@ -5,16 +5,16 @@ use Rattle.std.specs.Int.{w128}
 use Rattle.std.specs.Iterator.{YieldsFirst}
 use Rattle.std.proofs.lemmas.Bool.{not-true, not-false}
 use Rattle.std.proofs.lemmas.Int.{ints, to_z-of_z, by_lt_z}
-use Rattle.dn_arc.specs.declared.difference.Gap.{Gap}
-use Rattle.dn_arc.specs.State.Means.{IsMean}
-use Rattle.dn_arc.specs.State.Steps.{AreSteps, steps_room}
+use Rattle.dn_arc_theory.specs.declared.difference.Gap.{Gap}
+use Rattle.dn_arc_theory.specs.State.Means.{IsMean}
+use Rattle.dn_arc_theory.specs.State.Steps.{AreSteps, steps_room}
 use Rattle.dn_bundle.specs.State.Gaps.{unit_cost, gap_next, parted, first_gap, ArePart, AreWalks}
-use Rattle.dn_arc.proofs.MeansLaws.{more_mean, fits_some}
-use Rattle.dn_arc.proofs.PartsLaws.{test_yes, test_no}
-use Rattle.dn_arc.proofs.StepArcsLaws.{steps_some}
+use Rattle.dn_arc_theory.proofs.MeansLaws.{more_mean, fits_some}
+use Rattle.dn_arc_theory.proofs.PartsLaws.{test_yes, test_no}
+use Rattle.dn_arc_theory.proofs.StepArcsLaws.{steps_some}
 use Rattle.dn_bundle.proofs.Cost128Laws.{more_fits}
 use Rattle.dn_bundle.proofs.StepLaws.{less, not_less, next_fits, next_is}
-use Rattle.dn_arc.proofs.CanonsLaws.{eq_yes}
+use Rattle.dn_arc_theory.proofs.CanonsLaws.{eq_yes}
 
 -- the amount plus one, as the code computes it
 module _ (amount : ℤ) (some : pos 0 ≤ℤ amount) (most : amount <ℤ pos (2 ^ 63 - 1)) where

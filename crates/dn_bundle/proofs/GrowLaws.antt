@@ -4,25 +4,25 @@ use Rattle.std.proofs.Common.{◌≡◌, ◌-◌, ◌^◌, ℤ, pos, negsuc, ◌
 use Rattle.std.specs.Int.{w128}
 use Rattle.std.specs.List.{AllByRecursion}
 use Rattle.std.proofs.lemmas.Int.{ints, to_z-of_z, by_lt_z}
-use Rattle.dn_arc.specs.Kinds.{costs}
-use Rattle.dn_arc.specs.declared.arc.CostArc.{CostArc}
-use Rattle.dn_arc.specs.declared.arc.Form.TheVariants.{One}
+use Rattle.dn_arc_theory.specs.Kinds.{costs}
+use Rattle.dn_arc_theory.specs.declared.arc.CostArc.{CostArc}
+use Rattle.dn_arc_theory.specs.declared.arc.Form.TheVariants.{One}
 use Rattle.dn_bundle.specs.declared.curve.shape.Numbers.{Numbers}
 use Rattle.dn_bundle.specs.declared.curve.shape.Shape.{Shape}
-use Rattle.dn_arc.specs.Meanings.{SameCurve}
-use Rattle.dn_arc.specs.Canonical.{IsCostArc}
-use Rattle.dn_arc.specs.State.Steps.{put_step, add_step, AreSteps, steps_room}
-use Rattle.dn_arc.specs.State.CurveListed.{free_arc, step_arc, listed, IsSound}
+use Rattle.dn_arc_theory.specs.Meanings.{SameCurve}
+use Rattle.dn_arc_theory.specs.Canonical.{IsCostArc}
+use Rattle.dn_arc_theory.specs.State.Steps.{put_step, add_step, AreSteps, steps_room}
+use Rattle.dn_arc_theory.specs.State.CurveListed.{free_arc, step_arc, listed, IsSound}
 use Rattle.dn_bundle.specs.State.Shapes.{shape_numbers, AreSound, curve_of, IsGrown}
-use Rattle.dn_arc.proofs.SplitsLaws.{SameAbove}
-use Rattle.dn_arc.proofs.CurvesLaws.{above_meaning}
-use Rattle.dn_arc.proofs.PartsLaws.{test_yes, test_no}
-use Rattle.dn_arc.proofs.AddsLaws.{above_none}
-use Rattle.dn_arc.proofs.MeansLaws.{more_mean, fits_some}
-use Rattle.dn_arc.proofs.StepArcsLaws.{by_put, steps_some, put_steps, put_room, put_above}
-use Rattle.dn_arc.proofs.CostKindLaws.{cost_kind}
-use Rattle.dn_arc.proofs.StoredLaws.{same_numbers}
-use Rattle.dn_arc.proofs.SoundLaws.{none_is, sound_cap, listed_added}
+use Rattle.dn_arc_theory.proofs.SplitsLaws.{SameAbove}
+use Rattle.dn_arc_theory.proofs.CurvesLaws.{above_meaning}
+use Rattle.dn_arc_theory.proofs.PartsLaws.{test_yes, test_no}
+use Rattle.dn_arc_theory.proofs.AddsLaws.{above_none}
+use Rattle.dn_arc_theory.proofs.MeansLaws.{more_mean, fits_some}
+use Rattle.dn_arc_theory.proofs.StepArcsLaws.{by_put, steps_some, put_steps, put_room, put_above}
+use Rattle.dn_arc_theory.proofs.CostKindLaws.{cost_kind}
+use Rattle.dn_arc_theory.proofs.StoredLaws.{same_numbers}
+use Rattle.dn_arc_theory.proofs.SoundLaws.{none_is, sound_cap, listed_added}
 use Rattle.dn_bundle.proofs.Cost128Laws.{more_fits}
 
 pub most : (z : ℤ) → FitsSigned w64 z → z ≤ℤ pos (2 ^ 63 - 1)

@@ -4,15 +4,15 @@ use Rattle.std.proofs.Common.{◌≡◌, ℕ, ◌+◌, ℤ, pos, ◌+ℤ◌, ◌
 use Rattle.std.specs.List.{list_any}
 use Rattle.std.proofs.lemmas.Int.{ints}
 use Rattle.std.proofs.lemmas.List.{length-map}
-use Rattle.dn_arc.specs.declared.arc.CostArc.{CostArc}
-use Rattle.dn_arc.specs.declared.arc.Form.TheVariants.{Two}
-use Rattle.dn_arc.specs.Canonical.{AreRising}
-use Rattle.dn_arc.specs.State.Steps.{has_step}
-use Rattle.dn_arc.specs.State.CurveListed.{fixed_arc, step_arc, fixed_arcs, join_arc, listed, IsSound}
-use Rattle.dn_arc.proofs.FormsLaws.{AreAbove, above_lower}
-use Rattle.dn_arc.proofs.StepArcsLaws.{free_arcs}
-use Rattle.dn_arc.proofs.JoinsLaws.{joined_rising}
-use Rattle.dn_arc.proofs.CanonsLaws.{eq_yes, eq_below, eq_past}
+use Rattle.dn_arc_theory.specs.declared.arc.CostArc.{CostArc}
+use Rattle.dn_arc_theory.specs.declared.arc.Form.TheVariants.{Two}
+use Rattle.dn_arc_theory.specs.Canonical.{AreRising}
+use Rattle.dn_arc_theory.specs.State.Steps.{has_step}
+use Rattle.dn_arc_theory.specs.State.CurveListed.{fixed_arc, step_arc, fixed_arcs, join_arc, listed, IsSound}
+use Rattle.dn_arc_theory.proofs.FormsLaws.{AreAbove, above_lower}
+use Rattle.dn_arc_theory.proofs.StepArcsLaws.{free_arcs}
+use Rattle.dn_arc_theory.proofs.JoinsLaws.{joined_rising}
+use Rattle.dn_arc_theory.proofs.CanonsLaws.{eq_yes, eq_below, eq_past}
 use Rattle.dn_bundle.proofs.FormLaws.{by_order, join_before, join_past, join_at}
 
 -- 0 if the test holds, and 1 otherwise

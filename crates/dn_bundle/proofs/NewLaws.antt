@@ -2,24 +2,24 @@
 use Rattle.std.proofs.Common.{◌≡◌, ℕ, suc, ◌+◌, ◌<◌, ◌≤◌, ℤ, pos, ◌+ℤ◌, ◌-ℤ◌, ◌*ℤ◌, ◌<ℤ◌, ◌≤ℤ◌, Bool, true, false, List, [], ◌∷◌, ◌++◌, length, refl, sym, ◌∙◌, arith, w64, cond, inl, inr, FitsSigned, int_lt}
 use Rattle.std.proofs.Math.IntN.{*ℤ_comm}
 use Rattle.std.proofs.lemmas.Int.{ints, by_lt_z}
-use Rattle.dn_arc.specs.declared.arc.CostArc.{CostArc}
-use Rattle.dn_arc.specs.declared.arc.Form.TheVariants.{One}
-use Rattle.dn_arc.specs.Canonical.{IsCostArc}
-use Rattle.dn_arc.specs.Entries.{cost_entries}
-use Rattle.dn_arc.specs.State.Sizes.{cost_sizes}
-use Rattle.dn_arc.specs.State.CanonArcs.{NeedsMore}
-use Rattle.dn_arc.specs.State.Steps.{steps_of, add_step, has_step}
-use Rattle.dn_arc.specs.State.CurveListed.{listed, IsSound}
-use Rattle.dn_arc.proofs.CanonsLaws.{length_put}
-use Rattle.dn_arc.proofs.PartsLaws.{test_yes, test_no}
-use Rattle.dn_arc.proofs.CostKindLaws.{cost_sized}
-use Rattle.dn_arc.proofs.ListedLaws.{listed_units, listed_cost}
-use Rattle.dn_arc.proofs.ProductsLaws.{mul_suc, mul_mono}
-use Rattle.dn_arc.proofs.SoundLaws.{none_is, sound_arcs}
+use Rattle.dn_arc_theory.specs.declared.arc.CostArc.{CostArc}
+use Rattle.dn_arc_theory.specs.declared.arc.Form.TheVariants.{One}
+use Rattle.dn_arc_theory.specs.Canonical.{IsCostArc}
+use Rattle.dn_arc_theory.specs.Entries.{cost_entries}
+use Rattle.dn_arc_theory.specs.State.Sizes.{cost_sizes}
+use Rattle.dn_arc_theory.specs.State.CanonArcs.{NeedsMore}
+use Rattle.dn_arc_theory.specs.State.Steps.{steps_of, add_step, has_step}
+use Rattle.dn_arc_theory.specs.State.CurveListed.{listed, IsSound}
+use Rattle.dn_arc_theory.proofs.CanonsLaws.{length_put}
+use Rattle.dn_arc_theory.proofs.PartsLaws.{test_yes, test_no}
+use Rattle.dn_arc_theory.proofs.CostKindLaws.{cost_sized}
+use Rattle.dn_arc_theory.proofs.ListedLaws.{listed_units, listed_cost}
+use Rattle.dn_arc_theory.proofs.ProductsLaws.{mul_suc, mul_mono}
+use Rattle.dn_arc_theory.proofs.SoundLaws.{none_is, sound_arcs}
 use Rattle.dn_bundle.specs.declared.curve.shape.OneCost.{OneCost}
 use Rattle.dn_bundle.specs.State.Shapes.{one_step, plain, shape_numbers, LeavesPlain, NeedsRoom, forced, free, more, NeedRoom}
 use Rattle.dn_bundle.proofs.GrowLaws.{grown_sound, grown_same}
-use Rattle.dn_kind.proofs.BundleLaws.{all_end}
+use Rattle.dn_bundle_trait.proofs.BundleLaws.{all_end}
 use Rattle.dn_bundle.proofs.CurveLaws.{entries_listed}
 use Rattle.dn_bundle.proofs.GapLaws.{eq_no}
 

@@ -3,19 +3,19 @@
 use Rattle.std.proofs.Common.{◌≡◌, ◌≢◌, ◌↔◌, ℤ, pos, ◌+ℤ◌, ◌-ℤ◌, ◌*ℤ◌, ◌≤ℤ◌, ◌<ℤ◌, List, [], ◌∷◌, slice_get, Option, Some, None, refl, sym, ap, ◌∙◌, arith, MatchOption, unwrap_or}
 use Rattle.std.proofs.lemmas.Int.{ints, by_lt_z}
 use Rattle.std.proofs.Math.IntN.{*ℤ_comm}
-use Rattle.dn_arc.specs.declared.arc.Form.TheVariants.{One}
-use Rattle.dn_arc.specs.declared.difference.Gap.{Gap}
-use Rattle.dn_arc.specs.Meanings.{SameCurve}
-use Rattle.dn_arc.specs.Splits.{LeastCost}
-use Rattle.dn_arc.specs.Differences.{IsCostOf, IsGap}
-use Rattle.dn_arc.specs.State.Steps.{AreSteps}
-use Rattle.dn_arc.specs.State.CurveListed.{listed, IsSound}
+use Rattle.dn_arc_theory.specs.declared.arc.Form.TheVariants.{One}
+use Rattle.dn_arc_theory.specs.declared.difference.Gap.{Gap}
+use Rattle.dn_arc_theory.specs.Meanings.{SameCurve}
+use Rattle.dn_arc_theory.specs.Splits.{LeastCost}
+use Rattle.dn_arc_theory.specs.Differences.{IsCostOf, IsGap}
+use Rattle.dn_arc_theory.specs.State.Steps.{AreSteps}
+use Rattle.dn_arc_theory.specs.State.CurveListed.{listed, IsSound}
 use Rattle.dn_bundle.specs.State.Gaps.{AreWalks, unit_cost, gap_next, first_gap}
-use Rattle.dn_arc.proofs.ProductsLaws.{mul_sub}
-use Rattle.dn_arc.proofs.CurvesLaws.{curve_meaning}
-use Rattle.dn_arc.proofs.PartsLaws.{test_yes, test_no}
-use Rattle.dn_arc.proofs.SoundLaws.{none_is}
-use Rattle.dn_arc.proofs.CanonsLaws.{eq_yes, eq_below, eq_past}
+use Rattle.dn_arc_theory.proofs.ProductsLaws.{mul_sub}
+use Rattle.dn_arc_theory.proofs.CurvesLaws.{curve_meaning}
+use Rattle.dn_arc_theory.proofs.PartsLaws.{test_yes, test_no}
+use Rattle.dn_arc_theory.proofs.SoundLaws.{none_is}
+use Rattle.dn_arc_theory.proofs.CanonsLaws.{eq_yes, eq_below, eq_past}
 use Rattle.dn_bundle.proofs.FormLaws.{by_order}
 use Rattle.dn_bundle.proofs.WalkLaws.{IsAt, least_at, at_least, at_more, more_at, at_here, at_start, at_one, too_little}
 

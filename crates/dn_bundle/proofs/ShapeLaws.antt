@@ -1,22 +1,22 @@
 -- Adding an arc to a shape with forced units and free capacity at one cost: the shape remains plain.
 use Rattle.std.proofs.Common.{◌≡◌, ◌⊎◌, ℤ, pos, negsuc, ◌+ℤ◌, ◌-ℤ◌, ◌*ℤ◌, ◌≤ℤ◌, ◌<ℤ◌, List, [], ◌∷◌, sym, ap, ◌∙◌, subst, arith, w64, to_z, of_z, inl, inr, ℕ, ◌+◌, refl, FitsSigned}
 use Rattle.std.proofs.Math.IntN.{*ℤ_comm, zero-*ℤ}
-use Rattle.dn_arc.proofs.ProductsLaws.{mul_add}
+use Rattle.dn_arc_theory.proofs.ProductsLaws.{mul_add}
 use Rattle.std.proofs.Math.IntN.{nat_abs}
 use Rattle.std.specs.Int.{w128}
 use Rattle.dn_bundle.specs.declared.curve.shape.Numbers.{Numbers}
-use Rattle.dn_arc.specs.State.CurveListed.{IsSound}
+use Rattle.dn_arc_theory.specs.State.CurveListed.{IsSound}
 use Rattle.dn_bundle.proofs.GrowLaws.{most}
 use Rattle.std.proofs.lemmas.Int.{ints, to_z-of_z, by_lt_z}
-use Rattle.dn_arc.specs.declared.arc.CostArc.{CostArc}
+use Rattle.dn_arc_theory.specs.declared.arc.CostArc.{CostArc}
 use Rattle.dn_bundle.specs.declared.curve.shape.Shape.{Shape}
 use Rattle.dn_bundle.specs.declared.curve.shape.OneCost.{OneCost}
-use Rattle.dn_arc.specs.Canonical.{IsCostArc}
-use Rattle.dn_arc.specs.State.Steps.{steps_of, put_step, add_step}
+use Rattle.dn_arc_theory.specs.Canonical.{IsCostArc}
+use Rattle.dn_arc_theory.specs.State.Steps.{steps_of, put_step, add_step}
 use Rattle.dn_bundle.specs.State.Shapes.{one_step, plain, shape_numbers, AreSound, IsGrown, StaysPlain}
-use Rattle.dn_arc.proofs.PartsLaws.{test_yes, test_no}
-use Rattle.dn_arc.proofs.StepArcsLaws.{steps_some}
-use Rattle.dn_arc.proofs.MeansLaws.{fits_some}
+use Rattle.dn_arc_theory.proofs.PartsLaws.{test_yes, test_no}
+use Rattle.dn_arc_theory.proofs.StepArcsLaws.{steps_some}
+use Rattle.dn_arc_theory.proofs.MeansLaws.{fits_some}
 use Rattle.dn_bundle.proofs.StepLaws.{put_at}
 
 -- capacity above 0 at a cost is a breakpoint

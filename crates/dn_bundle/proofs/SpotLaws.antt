@@ -6,10 +6,10 @@ use Rattle.std.proofs.lemmas.Bool.{cases_Bool}
 use Rattle.std.proofs.lemmas.Int.{ints, to_z-of_z}
 use Rattle.std.proofs.lemmas.List.Edits.{insert-append_left}
 use Rattle.std.proofs.lemmas.List.{append-nil, length-set, take_at}
-use Rattle.dn_arc.proofs.StepArcsLaws.{costs_lower, steps_some}
-use Rattle.dn_arc.proofs.MeansLaws.{fits_some}
-use Rattle.dn_arc.specs.State.Steps.{put_step, step_past, has_step, AreSteps, steps_room}
-use Rattle.dn_arc.proofs.CanonsLaws.{eq_past, none_has}
+use Rattle.dn_arc_theory.proofs.StepArcsLaws.{costs_lower, steps_some}
+use Rattle.dn_arc_theory.proofs.MeansLaws.{fits_some}
+use Rattle.dn_arc_theory.specs.State.Steps.{put_step, step_past, has_step, AreSteps, steps_room}
+use Rattle.dn_arc_theory.proofs.CanonsLaws.{eq_past, none_has}
 use Rattle.dn_bundle.specs.State.Spots.{spot, HoldsFew}
 use Rattle.dn_bundle.proofs.StepLaws.{put_before, put_past, put_at, insert_front}
 

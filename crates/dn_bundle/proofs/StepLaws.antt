@@ -12,11 +12,11 @@ use Rattle.std.proofs.lemmas.Bool.{cases_Bool}
 use Rattle.std.proofs.lemmas.Map.{lookup-none}
 use Rattle.std.proofs.lemmas.Map.Entries.{none_below_head}
 use Rattle.std.proofs.lemmas.Map.Keys.{sorted_tail}
-use Rattle.dn_arc.proofs.StepArcsLaws.{steps_some}
-use Rattle.dn_arc.proofs.MeansLaws.{fits_some, fits_next}
-use Rattle.dn_arc.proofs.CanonsLaws.{by_cmp}
-use Rattle.dn_arc.proofs.PartsLaws.{test_yes, test_no}
-use Rattle.dn_arc.specs.State.Steps.{put_step, step_past, has_step, AreSteps, steps_room}
+use Rattle.dn_arc_theory.proofs.StepArcsLaws.{steps_some}
+use Rattle.dn_arc_theory.proofs.MeansLaws.{fits_some, fits_next}
+use Rattle.dn_arc_theory.proofs.CanonsLaws.{by_cmp}
+use Rattle.dn_arc_theory.proofs.PartsLaws.{test_yes, test_no}
+use Rattle.dn_arc_theory.specs.State.Steps.{put_step, step_past, has_step, AreSteps, steps_room}
 
 -- adding a breakpoint, by the result of a comparison
 module _ (step more : ℤ × ℤ) (rest : List (ℤ × ℤ)) where

@@ -3,11 +3,11 @@ use Rattle.std.proofs.Common.{◌≡◌, ℕ, ℤ, pos, ◌+ℤ◌, ◌-ℤ◌, 
 use Rattle.std.proofs.Math.IntN.{zero-*ℤ}
 use Rattle.std.specs.Int.{w32}
 use Rattle.std.proofs.lemmas.Int.{ints, to_z-of_z}
-use Rattle.dn_arc.specs.declared.arc.CostArc.{CostArc}
-use Rattle.dn_arc.specs.Canonical.{IsCostArc}
-use Rattle.dn_arc.specs.State.Steps.{put_step, steps_room}
-use Rattle.dn_arc.proofs.PartsLaws.{test_yes}
-use Rattle.dn_arc.proofs.MeansLaws.{fits_some}
+use Rattle.dn_arc_theory.specs.declared.arc.CostArc.{CostArc}
+use Rattle.dn_arc_theory.specs.Canonical.{IsCostArc}
+use Rattle.dn_arc_theory.specs.State.Steps.{put_step, steps_room}
+use Rattle.dn_arc_theory.proofs.PartsLaws.{test_yes}
+use Rattle.dn_arc_theory.proofs.MeansLaws.{fits_some}
 use Rattle.dn_bundle.specs.declared.curve.shape.OneCost.{OneCost}
 use Rattle.dn_bundle.specs.declared.curve.shape.TwoCosts.{TwoCosts}
 use Rattle.dn_bundle.specs.State.Shapes.{plain, two, two_steps, free_numbers, shape_numbers, AreSound, IsGrown, NeedRoom, free}

@@ -5,19 +5,19 @@ use Rattle.std.proofs.lemmas.Int.{ints, to_z-of_z}
 use Rattle.std.specs.Int.{w128}
 use Rattle.std.specs.Int.Signed.{le_z}
 use Rattle.std.proofs.Math.IntN.{*ℤ_comm}
-use Rattle.dn_arc.specs.declared.arc.Form.TheVariants.{One}
-use Rattle.dn_arc.specs.Splits.{LeastCost}
-use Rattle.dn_arc.specs.Fillings.{forced_units, forced_cost}
-use Rattle.dn_arc.specs.State.FillCosts.{room, free_room, fill_cost}
-use Rattle.dn_arc.specs.State.Means.{IsMean}
-use Rattle.dn_arc.specs.State.Steps.{AreSteps, steps_room}
-use Rattle.dn_arc.specs.State.CurveListed.{step_arc, listed, IsSound}
-use Rattle.dn_arc.proofs.FillsLaws.{fill_low, fill_high, fill_zero, filling_of_least, least_of_filling}
-use Rattle.dn_arc.proofs.FormsLaws.{free_ordered, form_one_ordered}
-use Rattle.dn_arc.proofs.StepArcsLaws.{free_arcs, steps_some, steps_free_room}
-use Rattle.dn_arc.proofs.ListedLaws.{listed_one, listed_units, listed_cost, listed_apart}
-use Rattle.dn_arc.proofs.SoundLaws.{none_is}
-use Rattle.dn_arc.proofs.MeansLaws.{more_mean, fits_some}
+use Rattle.dn_arc_theory.specs.declared.arc.Form.TheVariants.{One}
+use Rattle.dn_arc_theory.specs.Splits.{LeastCost}
+use Rattle.dn_arc_theory.specs.Fillings.{forced_units, forced_cost}
+use Rattle.dn_arc_theory.specs.State.FillCosts.{room, free_room, fill_cost}
+use Rattle.dn_arc_theory.specs.State.Means.{IsMean}
+use Rattle.dn_arc_theory.specs.State.Steps.{AreSteps, steps_room}
+use Rattle.dn_arc_theory.specs.State.CurveListed.{step_arc, listed, IsSound}
+use Rattle.dn_arc_theory.proofs.FillsLaws.{fill_low, fill_high, fill_zero, filling_of_least, least_of_filling}
+use Rattle.dn_arc_theory.proofs.FormsLaws.{free_ordered, form_one_ordered}
+use Rattle.dn_arc_theory.proofs.StepArcsLaws.{free_arcs, steps_some, steps_free_room}
+use Rattle.dn_arc_theory.proofs.ListedLaws.{listed_one, listed_units, listed_cost, listed_apart}
+use Rattle.dn_arc_theory.proofs.SoundLaws.{none_is}
+use Rattle.dn_arc_theory.proofs.MeansLaws.{more_mean, fits_some}
 use Rattle.dn_bundle.proofs.Cost128Laws.{more_fits}
 use Rattle.dn_bundle.proofs.GrowLaws.{most}
 

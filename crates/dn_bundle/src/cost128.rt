@@ -1,7 +1,7 @@
 // Sums and quotients of costs of 128 bits.
 ghost use Rattle.std.specs.Prelude.{◌≡◌, pos, ◌+ℤ◌, ◌*ℤ◌, ◌<ℤ◌, FitsSigned};
 ghost use Rattle.std.specs.Int.{w128};
-ghost use Rattle.dn_arc.specs.State.Means.{IsMean, IsFloor};
+ghost use Rattle.dn_arc_theory.specs.State.Means.{IsMean, IsFloor};
 
 /// Returns `all` plus the cost of `units` more units at `cost` each.
 pub(crate) fn more_cost(all: &i128, units: &i64, cost: &i64) -> i128

@@ -1,28 +1,28 @@
 // Cost curves: the least cost of each amount.
 ghost use Rattle.std.specs.Prelude.{◌≡◌, ◌+ℤ◌, [], ◌∷◌, ◌++◌, length, filter, slice_get, OnOk, OnErr, refl, true};
 ghost use Rattle.std.specs.Option.{option_map};
-ghost use Rattle.dn_arc.specs.Kinds.{costs};
-ghost use Rattle.dn_arc.specs.Meanings.{SameCurve};
-ghost use Rattle.dn_arc.specs.Canonical.{IsCostArc, has_low};
-ghost use Rattle.dn_arc.specs.Fillings.{forced_units, forced_cost};
-ghost use Rattle.dn_arc.specs.Entries.{free_costs};
-ghost use Rattle.dn_arc.specs.Differences.{IsCostOf};
-ghost use Rattle.dn_arc.specs.State.CurveListed.{listed, fixed_arcs, step_arc, fixed_list, HasNext, is_free};
+ghost use Rattle.dn_arc_theory.specs.Kinds.{costs};
+ghost use Rattle.dn_arc_theory.specs.Meanings.{SameCurve};
+ghost use Rattle.dn_arc_theory.specs.Canonical.{IsCostArc, has_low};
+ghost use Rattle.dn_arc_theory.specs.Fillings.{forced_units, forced_cost};
+ghost use Rattle.dn_arc_theory.specs.Entries.{free_costs};
+ghost use Rattle.dn_arc_theory.specs.Differences.{IsCostOf};
+ghost use Rattle.dn_arc_theory.specs.State.CurveListed.{listed, fixed_arcs, step_arc, fixed_list, HasNext, is_free};
 ghost use Rattle.dn_bundle.specs.State.Gaps.{IsGapOf};
 ghost use Rattle.dn_bundle.specs.State.Shapes.{shape_numbers, AreSound, NeedsRoom};
-ghost use Rattle.dn_arc.specs.Differences.{CurvesDiffer};
-ghost use Rattle.dn_arc.specs.State.Sizes.{cost_sizes};
-ghost use Rattle.dn_arc.proofs.SoundLaws.{IsSound-prop, sound_canonical, sound_same, sound_fit};
-ghost use Rattle.dn_arc.proofs.CostKindLaws.{cost_kind, cost_sized, cost_differs};
-ghost use Rattle.dn_arc.specs.declared.arc.Form.{Form};
-ghost use Rattle.dn_arc.specs.declared.difference.How.TheVariants.{Costs};
+ghost use Rattle.dn_arc_theory.specs.Differences.{CurvesDiffer};
+ghost use Rattle.dn_arc_theory.specs.State.Sizes.{cost_sizes};
+ghost use Rattle.dn_arc_theory.proofs.SoundLaws.{IsSound-prop, sound_canonical, sound_same, sound_fit};
+ghost use Rattle.dn_arc_theory.proofs.CostKindLaws.{cost_kind, cost_sized, cost_differs};
+ghost use Rattle.dn_arc_theory.specs.declared.arc.Form.{Form};
+ghost use Rattle.dn_arc_theory.specs.declared.difference.How.TheVariants.{Costs};
 ghost use Rattle.dn_bundle.specs.State.Listings.{curve_arcs, form_one_arcs};
 
 use crate::cost128::{floor, more_cost};
 use crate::curve::shape::Shape;
 use crate::difference::first_gap;
-use dn_arc::{CostArc, Fixed, Form, Gap, How};
-use dn_kind::{Bundle, BundleFault};
+use dn_arc_theory::{CostArc, Fixed, Form, Gap, How};
+use dn_bundle_trait::{Bundle, BundleFault};
 use std::alloc::{AllocError, Global};
 use std::marker::Model;
 
@@ -40,8 +40,8 @@ pub struct Curve {
 }
 
 impl Model for Curve {
-    ghost use Rattle.dn_arc.specs.State.Curves.{CurveNumbers};
-    ghost use Rattle.dn_arc.proofs.StoredLaws.{curve_code};
+    ghost use Rattle.dn_arc_theory.specs.State.Curves.{CurveNumbers};
+    ghost use Rattle.dn_arc_theory.proofs.StoredLaws.{curve_code};
 
     ghost Value = { CurveNumbers };
 

@@ -1,11 +1,11 @@
 // Finds the first gap between the breakpoints of two curves.
 ghost use Rattle.std.specs.Prelude.{◌≡◌, ◌-◌, ◌^◌, pos, negsuc, ◌+ℤ◌, ◌*ℤ◌, ◌≤ℤ◌, ◌<ℤ◌};
-ghost use Rattle.dn_arc.specs.State.Means.{IsMean};
+ghost use Rattle.dn_arc_theory.specs.State.Means.{IsMean};
 ghost use Rattle.dn_bundle.specs.State.Gaps.{unit_cost, gap_next, parted, first_gap, ArePart, AreWalks};
 
 use crate::cost128::more_cost;
 use crate::steps::StepsIter;
-use dn_arc::Gap;
+use dn_arc_theory::Gap;
 
 // Returns the first gap above `amount`, given the remaining breakpoints of two curves on which `amount` has this cost.
 pub(crate) fn first_gap(

@@ -2,15 +2,15 @@
 ghost use Rattle.std.specs.Prelude.{◌≡◌, FitsSigned, refl, false};
 ghost use Rattle.std.specs.Int.{w64};
 ghost use Rattle.std.specs.Option.{option_copied, option_map};
-ghost use Rattle.dn_arc.specs.Kinds.{lengths};
-ghost use Rattle.dn_arc.specs.Lengths.{LeastLength};
-ghost use Rattle.dn_arc.specs.State.SingleArcs.{length_listed};
-ghost use Rattle.dn_arc.specs.Differences.{LengthsDiffer};
-ghost use Rattle.dn_arc.specs.State.Sizes.{length_sizes};
-ghost use Rattle.dn_arc.proofs.LengthKindLaws.{length_kind, length_sized, length_differs, length_canonical, length_fit};
+ghost use Rattle.dn_arc_theory.specs.Kinds.{lengths};
+ghost use Rattle.dn_arc_theory.specs.Lengths.{LeastLength};
+ghost use Rattle.dn_arc_theory.specs.State.SingleArcs.{length_listed};
+ghost use Rattle.dn_arc_theory.specs.Differences.{LengthsDiffer};
+ghost use Rattle.dn_arc_theory.specs.State.Sizes.{length_sizes};
+ghost use Rattle.dn_arc_theory.proofs.LengthKindLaws.{length_kind, length_sized, length_differs, length_canonical, length_fit};
 
-use dn_arc::{Form, How, LengthArc};
-use dn_kind::{Bundle, BundleFault};
+use dn_arc_theory::{Form, How, LengthArc};
+use dn_bundle_trait::{Bundle, BundleFault};
 use std::alloc::{AllocError, Global};
 
 /// The least length of the arcs of an `sp` pair.

@@ -3,7 +3,7 @@ ghost use Rattle.std.specs.Prelude.{◌≡◌, ◌-◌, ◌^◌, ℤ, pos, ◌+�
 ghost use Rattle.std.specs.List.{insert};
 ghost use Rattle.std.specs.Iterator.{YieldsFirst, item_count};
 ghost use Rattle.std.specs.Option.{option_to_list};
-ghost use Rattle.dn_arc.specs.State.Steps.{put_step, add_step, step_past, has_step, AreSteps, steps_room};
+ghost use Rattle.dn_arc_theory.specs.State.Steps.{put_step, add_step, step_past, has_step, AreSteps, steps_room};
 ghost use Rattle.dn_bundle.specs.State.Spots.{spot};
 
 use arrayvec::ArrayVec;

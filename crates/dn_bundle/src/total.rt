@@ -1,15 +1,15 @@
 // The total capacity of the arcs of a pair.
 ghost use Rattle.std.specs.Prelude.{◌≡◌, ◌-◌, ◌^◌, pos, ◌≤ℤ◌, ◌<ℤ◌, refl, false};
 ghost use Rattle.std.specs.Option.{option_copied, option_map, unwrap_or};
-ghost use Rattle.dn_arc.specs.Kinds.{capacities};
-ghost use Rattle.dn_arc.specs.Capacities.{total_cap};
-ghost use Rattle.dn_arc.specs.State.SingleArcs.{cap_listed};
-ghost use Rattle.dn_arc.specs.Differences.{TotalsDiffer};
-ghost use Rattle.dn_arc.specs.State.Sizes.{cap_sizes};
-ghost use Rattle.dn_arc.proofs.TotalKindLaws.{total_kind, total_sized, total_differs, total_canonical, total_fit};
+ghost use Rattle.dn_arc_theory.specs.Kinds.{capacities};
+ghost use Rattle.dn_arc_theory.specs.Capacities.{total_cap};
+ghost use Rattle.dn_arc_theory.specs.State.SingleArcs.{cap_listed};
+ghost use Rattle.dn_arc_theory.specs.Differences.{TotalsDiffer};
+ghost use Rattle.dn_arc_theory.specs.State.Sizes.{cap_sizes};
+ghost use Rattle.dn_arc_theory.proofs.TotalKindLaws.{total_kind, total_sized, total_differs, total_canonical, total_fit};
 
-use dn_arc::{CapArc, Form, How};
-use dn_kind::{Bundle, BundleFault};
+use dn_arc_theory::{CapArc, Form, How};
+use dn_bundle_trait::{Bundle, BundleFault};
 use std::alloc::{AllocError, Global};
 
 /// The total capacity of the arcs of a `max` pair, which is above 0.

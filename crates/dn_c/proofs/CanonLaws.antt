@@ -1,12 +1,12 @@
 -- Lemmas that calls get the canonical instance out of a parsed instance.
 use Rattle.std.proofs.Common.{◌≡◌, ◌<◌, ℕ, ℤ, zero, suc, List, [], ◌∷◌, ◌++◌, length, map, take, drop, flat_map, append-nil, None, Some, Ok, refl, sym, ap, ◌∙◌, arith}
 use Rattle.std.proofs.lemmas.List.{length-map}
-use Rattle.dn_arc.specs.Kinds.{costs, capacities, lengths}
-use Rattle.dn_arc.specs.declared.arc.Form.{Form}
-use Rattle.dn_arc.proofs.CostKindLaws.{cost_kind}
-use Rattle.dn_arc.proofs.LengthKindLaws.{length_kind, length_canonical, length_fit}
-use Rattle.dn_arc.proofs.SoundLaws.{sound_canonical, sound_same, sound_fit}
-use Rattle.dn_arc.proofs.TotalKindLaws.{total_kind, total_canonical, total_fit}
+use Rattle.dn_arc_theory.specs.Kinds.{costs, capacities, lengths}
+use Rattle.dn_arc_theory.specs.declared.arc.Form.{Form}
+use Rattle.dn_arc_theory.proofs.CostKindLaws.{cost_kind}
+use Rattle.dn_arc_theory.proofs.LengthKindLaws.{length_kind, length_canonical, length_fit}
+use Rattle.dn_arc_theory.proofs.SoundLaws.{sound_canonical, sound_same, sound_fit}
+use Rattle.dn_arc_theory.proofs.TotalKindLaws.{total_kind, total_canonical, total_fit}
 use Rattle.dn_bundle.specs.State.Listings.{least_arcs, total_arcs, curve_arcs}
 use Rattle.dn_instance.specs.Instances.{Instance, MinCostFlow, MaxFlow, ShortestPaths, Sources, Queries, Coordinates}
 use Rattle.dn_instance.specs.State.Helds.{Bundles, Contents, Parsed, OfHeld, OfMin, OfMax, OfSp, OfSs, OfP2p, OfCo, Shows}

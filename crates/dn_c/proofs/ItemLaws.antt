@@ -9,7 +9,7 @@ use Rattle.std.proofs.Math.Seq.{drop-append_seam}
 use Rattle.std.proofs.lemmas.List.{length-take-le}
 use Rattle.dn_instance.specs.State.Helds.{Contents, OfMin, OfMax, OfSp, OfSs, OfP2p, OfCo}
 use Rattle.dn_nodes.specs.State.Nodes.{after, Rises}
-use Rattle.dn_arc.proofs.PairLaws.{int_self}
+use Rattle.dn_arc_theory.proofs.PairLaws.{int_self}
 use Rattle.dn_nodes.proofs.AfterLaws.{all_after, passed}
 use Rattle.dn_nodes.proofs.KeyLaws.{above_trans, rises_head, rises_tail}
 use Rattle.dn_c.specs.State.Items.{flow_item, point_item, left_items, listed_items, nodes_left, IsListed}

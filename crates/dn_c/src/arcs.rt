@@ -2,7 +2,7 @@
 ghost use Rattle.std.specs.Prelude.{◌≡◌};
 ghost use Rattle.dn_c.specs.State.Rows.{number_at, row_of};
 
-use dn_arc::Parts;
+use dn_arc_theory::Parts;
 
 /// An arc as C has it: its nodes, and its numbers in the order of its line, which are the length (`sp`), the capacity
 /// (`max`), or the lower bound, the capacity and the cost (`min`). Missing numbers are 0.

@@ -6,7 +6,7 @@ ghost use Rattle.dn_c.specs.State.Reads.{shown_work};
 use crate::facts::kind_number;
 use crate::shown::Shown;
 use crate::work::Work;
-use dn_arc::How;
+use dn_arc_theory::How;
 use dn_compare::compare;
 use dn_instance::Verdict;
 

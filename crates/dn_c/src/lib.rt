@@ -16,6 +16,7 @@ mod facts;
 mod fits;
 pub mod handle;
 mod items;
+pub mod laws;
 mod lines;
 mod next;
 mod outputs;

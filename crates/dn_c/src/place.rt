@@ -4,7 +4,7 @@ ghost use Rattle.dn_c.specs.declared.place.Place.{Place};
 ghost use Rattle.dn_c.specs.State.Places.{behind, place_after, place_with, last_before, cap_at, cost_at, length_at};
 
 use crate::arcs::number;
-use dn_arc::{CapArc, CostArc, LengthArc, Parts};
+use dn_arc_theory::{CapArc, CostArc, LengthArc, Parts};
 use dn_bundle::{Bundle, Curve, Least, Total};
 
 /// A place between two canonical arcs of a graph: so many pairs with all their arcs are before it, and of the next pair

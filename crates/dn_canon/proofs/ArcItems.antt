@@ -13,16 +13,16 @@ use Rattle.dn_line.specs.declared.line.Line.TheVariants as Item
 use Rattle.dn_line.specs.Words.{said}
 use Rattle.dn_line.specs.State.Spelling.{Spells}
 use Rattle.dn_line.specs.Faults.{first_fault}
-use Rattle.dn_arc.specs.Kinds.{ArcKind, lengths, capacities, costs}
-use Rattle.dn_arc.specs.State.Bundles.{IsKind}
-use Rattle.dn_arc.specs.declared.arc.LengthArc.{LengthArc}
-use Rattle.dn_arc.specs.declared.arc.CapArc.{CapArc}
-use Rattle.dn_arc.specs.declared.arc.CostArc.{CostArc}
-use Rattle.dn_arc.proofs.PartsLaws.{test_no}
-use Rattle.dn_arc.proofs.CostKindLaws.{cost_kind}
-use Rattle.dn_arc.proofs.LengthKindLaws.{length_kind}
-use Rattle.dn_arc.proofs.TotalKindLaws.{total_kind}
-use Rattle.dn_arc.specs.Pairs.{bundle, same_pair}
+use Rattle.dn_arc_theory.specs.Kinds.{ArcKind, lengths, capacities, costs}
+use Rattle.dn_arc_theory.specs.State.Bundles.{IsKind}
+use Rattle.dn_arc_theory.specs.declared.arc.LengthArc.{LengthArc}
+use Rattle.dn_arc_theory.specs.declared.arc.CapArc.{CapArc}
+use Rattle.dn_arc_theory.specs.declared.arc.CostArc.{CostArc}
+use Rattle.dn_arc_theory.proofs.PartsLaws.{test_no}
+use Rattle.dn_arc_theory.proofs.CostKindLaws.{cost_kind}
+use Rattle.dn_arc_theory.proofs.LengthKindLaws.{length_kind}
+use Rattle.dn_arc_theory.proofs.TotalKindLaws.{total_kind}
+use Rattle.dn_arc_theory.specs.Pairs.{bundle, same_pair}
 use Rattle.dn_instance.specs.Instances.{Graph}
 use Rattle.dn_instance.specs.Validity.{Fits, IsNode, IsPlaced, IsValidGraph}
 use Rattle.dn_instance.specs.Items.{counted, is_counted, arcs_of, length_arc_in, cap_arc_in, cost_arc_in, supply_in}

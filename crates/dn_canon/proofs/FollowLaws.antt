@@ -15,7 +15,7 @@ use Rattle.dn_line.specs.State.Spelling.{Spells}
 use Rattle.dn_line.specs.Faults.{first_fault}
 use Rattle.dn_num.specs.Number.{number_read}
 use Rattle.std.specs.Fmt.{signed_decimal}
-use Rattle.dn_arc.specs.Kinds.{capacities, costs}
+use Rattle.dn_arc_theory.specs.Kinds.{capacities, costs}
 use Rattle.dn_instance.specs.Instances.{Graph, Instance, MinCostFlow, MaxFlow, ShortestPaths, Sources, Queries, Coordinates, size_of}
 use Rattle.dn_instance.specs.Validity.{IsNode, IsId, IsValidGraph, IsSupply, IsPoint, AreSupplies, ArePoints, IsValid}
 use Rattle.dn_instance.specs.Items.{counted, cost_arc_in}

@@ -1,7 +1,7 @@
 -- For all kinds but `min`, the canonical text is the same in both forms.
 use Rattle.std.proofs.Common.{◌≡◌, ◌≢◌, ℕ, List, refl, ◌∙◌}
 use Rattle.dn_line.specs.declared.kind.Kind.TheVariants as Kinds
-use Rattle.dn_arc.specs.declared.arc.Form.{Form}
+use Rattle.dn_arc_theory.specs.declared.arc.Form.{Form}
 use Rattle.dn_instance.specs.Instances.{Instance, MinCostFlow, MaxFlow, ShortestPaths, Sources, Queries, Coordinates, kind_of}
 use Rattle.dn_instance.specs.Sameness.{IsSame}
 use Rattle.dn_canon.specs.CanonInstances.{IsCanonInstance}

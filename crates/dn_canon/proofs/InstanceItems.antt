@@ -19,7 +19,7 @@ use Rattle.dn_line.specs.declared.word.Keyword.{Keyword}
 use Rattle.dn_line.specs.declared.word.Keyword.TheVariants as Key
 use Rattle.dn_line.specs.Words.{keyword_text, said}
 use Rattle.dn_line.specs.LineTable.{kind_named}
-use Rattle.dn_arc.specs.Kinds.{ArcKind, lengths, capacities, costs}
+use Rattle.dn_arc_theory.specs.Kinds.{ArcKind, lengths, capacities, costs}
 use Rattle.dn_instance.specs.Instances.{Graph, Instance, MinCostFlow, MaxFlow, ShortestPaths, Sources, Queries, Coordinates, kind_of, nodes_of}
 use Rattle.dn_instance.specs.Validity.{IsSupply, AreSupplies, IsValid}
 use Rattle.dn_instance.specs.Items.{cost_arc_in, supply_in, supplies_of, source_in, query_in, point_in, instance_as, instance_of, Problem, problem_in}

@@ -12,19 +12,19 @@ use Rattle.std.specs.Ordering.{is_le}
 use Rattle.std.specs.declared.cmp.Ordering.TheVariants.{Less}
 use Rattle.std.proofs.lemmas.Bool.{cases_Bool}
 use Rattle.dn_num.specs.Number.{fits}
-use Rattle.dn_arc.specs.declared.arc.Form.{Form}
-use Rattle.dn_arc.specs.declared.arc.Form.TheVariants.{One, Two}
-use Rattle.dn_arc.specs.Kinds.{ArcKind, costs, capacities}
-use Rattle.dn_arc.specs.State.CanonArcs.{AreCanonArcsOf}
-use Rattle.dn_arc.specs.declared.arc.CapArc.{CapArc}
-use Rattle.dn_arc.specs.declared.arc.CostArc.{CostArc}
-use Rattle.dn_arc.specs.State.Bundles.{IsKind, NumbersFit, listed_of}
+use Rattle.dn_arc_theory.specs.declared.arc.Form.{Form}
+use Rattle.dn_arc_theory.specs.declared.arc.Form.TheVariants.{One, Two}
+use Rattle.dn_arc_theory.specs.Kinds.{ArcKind, costs, capacities}
+use Rattle.dn_arc_theory.specs.State.CanonArcs.{AreCanonArcsOf}
+use Rattle.dn_arc_theory.specs.declared.arc.CapArc.{CapArc}
+use Rattle.dn_arc_theory.specs.declared.arc.CostArc.{CostArc}
+use Rattle.dn_arc_theory.specs.State.Bundles.{IsKind, NumbersFit, listed_of}
 use Rattle.dn_instance.specs.Instances.{Graph, MinCostFlow, MaxFlow}
-use Rattle.dn_arc.specs.Pairs.{bundle, pair_cmp, same_pair}
+use Rattle.dn_arc_theory.specs.Pairs.{bundle, pair_cmp, same_pair}
 use Rattle.dn_table.specs.State.ListedEntries.{entries_listed}
 use Rattle.dn_table.specs.State.Tables.{listed_at}
 use Rattle.dn_instance.specs.Validity.{Fits, IsNode, IsPlaced, IsValidGraph, AreSupplies, AreTerminals}
-use Rattle.dn_arc.proofs.PairLaws.{pair_is, pair_self, int_self}
+use Rattle.dn_arc_theory.proofs.PairLaws.{pair_is, pair_self, int_self}
 use Rattle.dn_canon.specs.CanonInstances.{AreInOrder, IsCanonInstanceOf}
 use Rattle.dn_canon.specs.State.CanonGraphs.{IsCanonGraphOf}
 use Rattle.dn_canon.specs.State.ListedArcs.{placed, listed_arcs, listed_graph}

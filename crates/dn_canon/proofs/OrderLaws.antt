@@ -5,8 +5,8 @@ use Rattle.std.specs.Ordering.{is_eq, is_le}
 use Rattle.std.specs.declared.cmp.Ordering.{Ordering}
 use Rattle.std.specs.declared.cmp.Ordering.TheVariants.{Less, Equal, Greater}
 use Rattle.std.proofs.lemmas.Bool.{cases_Bool}
-use Rattle.dn_arc.proofs.PairLaws.{pair_is, pair_self, pair_total, reversed}
-use Rattle.dn_arc.specs.Pairs.{bundle, pair_cmp, pair_le, same_pair}
+use Rattle.dn_arc_theory.proofs.PairLaws.{pair_is, pair_self, pair_total, reversed}
+use Rattle.dn_arc_theory.specs.Pairs.{bundle, pair_cmp, pair_le, same_pair}
 use Rattle.dn_canon.specs.CanonInstances.{AreInOrder}
 
 -- if p comes after q, q comes before p

@@ -5,7 +5,7 @@ use Rattle.std.proofs.lemmas.Option.{slice_get_cases}
 use Rattle.std.specs.Borrow.{Bor}
 use Rattle.dn_line.specs.declared.kind.Kind.{Kind}
 use Rattle.dn_line.specs.declared.word.Keyword.TheVariants.{A, S, T}
-use Rattle.dn_arc.specs.Kinds.{ArcKind}
+use Rattle.dn_arc_theory.specs.Kinds.{ArcKind}
 use Rattle.dn_instance.specs.Instances.{Graph}
 use Rattle.dn_canon.specs.Prints.{word_row, graph_row, terminal_row, arc_row, graph_rows}
 use Rattle.dn_sink.specs.Rows.{Cells, line_text, text_of}

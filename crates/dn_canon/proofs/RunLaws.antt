@@ -1,6 +1,6 @@
 -- Lemmas on a run from a source to a sink.
 use Rattle.std.proofs.Common.{ℕ, List, Option, Some, None, Result, Ok, Err, IfSome}
-use Rattle.dn_arc.specs.declared.arc.Form.{Form}
+use Rattle.dn_arc_theory.specs.declared.arc.Form.{Form}
 use Rattle.dn_instance.specs.State.Helds.{Parsed, IsHeld}
 use Rattle.dn_instance.specs.Instances.{Instance}
 use Rattle.dn_instance.specs.SourceReads.{AfterPulls}

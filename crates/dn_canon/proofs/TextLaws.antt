@@ -3,12 +3,12 @@ use Rattle.std.proofs.Common.{◌≡◌, ◌↔◌, ℕ, ◌+◌, ◌-◌, ◌<�
 use Rattle.std.proofs.lemmas.Bool.Decides.{nat_tests}
 use Rattle.dn_line.specs.Pieces.{lines}
 use Rattle.dn_line.specs.declared.code.Code.TheVariants.{TooLong}
-use Rattle.dn_arc.specs.declared.arc.Form.{Form}
-use Rattle.dn_arc.specs.Kinds.{ArcKind, lengths, capacities, costs}
-use Rattle.dn_arc.specs.State.Bundles.{IsDetermined}
-use Rattle.dn_arc.proofs.LengthKindLaws.{length_determined}
-use Rattle.dn_arc.proofs.TotalKindLaws.{total_determined}
-use Rattle.dn_arc.proofs.FormTwoLaws.{determination_of_forms}
+use Rattle.dn_arc_theory.specs.declared.arc.Form.{Form}
+use Rattle.dn_arc_theory.specs.Kinds.{ArcKind, lengths, capacities, costs}
+use Rattle.dn_arc_theory.specs.State.Bundles.{IsDetermined}
+use Rattle.dn_arc_theory.proofs.LengthKindLaws.{length_determined}
+use Rattle.dn_arc_theory.proofs.TotalKindLaws.{total_determined}
+use Rattle.dn_arc_theory.proofs.FormTwoLaws.{determination_of_forms}
 use Rattle.dn_instance.specs.Instances.{Graph, Instance, MinCostFlow, MaxFlow, ShortestPaths, Sources, Queries, Coordinates}
 use Rattle.dn_instance.specs.Sameness.{SameGraph, IsSame}
 use Rattle.dn_instance.specs.TextFaults.{is_too_long}

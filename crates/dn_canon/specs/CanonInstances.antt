@@ -1,10 +1,10 @@
 -- Which instances are canonical in each form, and which is the canonical instance of an instance (this project's
 -- profile).
 use Rattle.std.specs.Prelude.{ℤ, List, IsTrue}
-use Rattle.dn_arc.specs.declared.arc.Form.{Form}
-use Rattle.dn_arc.specs.Canonical.{ArePairwise}
-use Rattle.dn_arc.specs.Kinds.{ArcKind, costs, capacities, lengths}
-use Rattle.dn_arc.specs.Pairs.{pair_le, bundle}
+use Rattle.dn_arc_theory.specs.declared.arc.Form.{Form}
+use Rattle.dn_arc_theory.specs.Canonical.{ArePairwise}
+use Rattle.dn_arc_theory.specs.Kinds.{ArcKind, costs, capacities, lengths}
+use Rattle.dn_arc_theory.specs.Pairs.{pair_le, bundle}
 use Rattle.dn_instance.specs.Instances.{Graph, Instance, MinCostFlow, MaxFlow, ShortestPaths, Sources, Queries, Coordinates}
 use Rattle.dn_instance.specs.Sameness.{IsSame}
 use Rattle.dn_instance.specs.Validity.{IsValid}

@@ -9,7 +9,7 @@ use Rattle.dn_line.specs.declared.kind.Kind.TheVariants as Kinds
 use Rattle.dn_line.specs.declared.word.Keyword.{Keyword}
 use Rattle.dn_line.specs.declared.word.Keyword.TheVariants.{P, N, A, S, T, Q, V, Sp, Aux}
 use Rattle.dn_sink.specs.Rows.{Cells, text_of}
-use Rattle.dn_arc.specs.Kinds.{ArcKind, costs, capacities, lengths}
+use Rattle.dn_arc_theory.specs.Kinds.{ArcKind, costs, capacities, lengths}
 use Rattle.dn_instance.specs.Instances.{Graph, Instance, MinCostFlow, MaxFlow, ShortestPaths, Sources, Queries, Coordinates}
 
 -- the line of a keyword and numbers

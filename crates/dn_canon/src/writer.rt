@@ -3,7 +3,7 @@ ghost use Rattle.std.specs.Prelude.{◌≡◌, ◌<◌, ◌≤◌, ◌^◌, ◌+
 ghost use Rattle.std.specs.List.Sorted.{IsStrictlySortedBy};
 ghost use Rattle.std.specs.Map.{keys_of};
 ghost use Rattle.dn_instance.specs.Instances.{Graph, Sources, Queries, Coordinates};
-ghost use Rattle.dn_arc.specs.Pairs.{pair_cmp};
+ghost use Rattle.dn_arc_theory.specs.Pairs.{pair_cmp};
 ghost use Rattle.dn_table.specs.State.Tables.{Lists};
 ghost use Rattle.dn_instance.specs.Validity.{IsValidGraph};
 ghost use Rattle.dn_canon.specs.State.Blocks.{Adds};

@@ -1,8 +1,8 @@
 -- Which lines of words are plain forms of commands, and what they ask for (this project's profile).
 use Rattle.std.specs.Prelude.{ℕ, nat_eq, List, [], ◌∷◌, Bool, false, not, ◌&&◌, ◌||◌, Option, Some, None, option_map, codes, drop, if◌then◌else◌}
 use Rattle.std.specs.Str.{bytes_eq}
-use Rattle.dn_arc.specs.declared.arc.Form.{Form}
-use Rattle.dn_arc.specs.declared.arc.Form.TheVariants.{One}
+use Rattle.dn_arc_theory.specs.declared.arc.Form.{Form}
+use Rattle.dn_arc_theory.specs.declared.arc.Form.TheVariants.{One}
 use Rattle.dn_command.specs.declared.command.Command.{Command}
 use Rattle.dn_command.specs.declared.command.Command.TheVariants as commands
 

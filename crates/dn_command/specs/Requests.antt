@@ -5,8 +5,8 @@ use Rattle.std.specs.Str.{bytes_eq}
 use Rattle.clap.specs.Words.{IsAmong, Kinds, Row, Text, fault_of, first_of, subcommand_of}
 use Rattle.clap.specs.declared.error.kind.ErrorKind.{ErrorKind}
 use Rattle.clap.specs.declared.error.kind.ErrorKind.TheVariants.{DisplayHelp, DisplayVersion}
-use Rattle.dn_arc.specs.declared.arc.Form.{Form}
-use Rattle.dn_arc.specs.declared.arc.Form.TheVariants.{One, Two}
+use Rattle.dn_arc_theory.specs.declared.arc.Form.{Form}
+use Rattle.dn_arc_theory.specs.declared.arc.Form.TheVariants.{One, Two}
 use Rattle.dn_command.specs.Commands.{Asked, Canon, Check, Compare, Show, asks}
 use Rattle.dn_command.specs.Options.{dnorm_app, form_option_words}
 use Rattle.dn_command.specs.declared.request.Request.{Request}

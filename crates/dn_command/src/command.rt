@@ -3,7 +3,7 @@ ghost use Rattle.std.specs.Prelude.{◌≡◌, map, string_bytes, option_map};
 ghost use Rattle.dn_command.specs.Commands.{asked_of_one, asked_of_two, asks, is_name, is_standard_input, names_twice};
 ghost use Rattle.dn_command.specs.Commands.{plain_asked};
 
-use dn_arc::Form;
+use dn_arc_theory::Form;
 
 /// A command. A text is given by the name of its file, or by `-` for standard input.
 #[derive(Clone, Copy)]

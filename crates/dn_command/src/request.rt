@@ -12,7 +12,7 @@ use crate::help::VERSION;
 use crate::options::parse;
 use clap::error::ErrorKind;
 use clap::{ArgMatches, Error};
-use dn_arc::Form;
+use dn_arc_theory::Form;
 use std::alloc::{AllocError, Global};
 
 /// What to do for a line of words.

@@ -2,10 +2,10 @@
 use Rattle.std.proofs.Common.{ℤ, List, Option, Some, None}
 use Rattle.std.specs.Ordering.{int_cmp}
 use Rattle.std.proofs.lemmas.Map.Lookups.{CmpEqualImpliesEq, exact_pairs, exact_signed}
-use Rattle.dn_arc.specs.State.Bundles.{ArcDiffer, AreDifferences, IsKind}
-use Rattle.dn_arc.specs.Kinds.{ArcKind}
-use Rattle.dn_arc.specs.declared.difference.How.{How}
-use Rattle.dn_arc.specs.Pairs.{bundle, pair_cmp}
+use Rattle.dn_arc_theory.specs.State.Bundles.{ArcDiffer, AreDifferences, IsKind}
+use Rattle.dn_arc_theory.specs.Kinds.{ArcKind}
+use Rattle.dn_arc_theory.specs.declared.difference.How.{How}
+use Rattle.dn_arc_theory.specs.Pairs.{bundle, pair_cmp}
 use Rattle.dn_table.specs.State.Tables.{listed_at, TableLists}
 use Rattle.dn_compare.specs.State.Partings.{by_meaning, IsParting, IsArcsParting}
 

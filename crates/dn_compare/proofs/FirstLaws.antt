@@ -3,9 +3,9 @@ use Rattle.std.proofs.Common.{◌≡◌, ◌≢◌, ℕ, ℤ, pos, refl, sym, �
 use Rattle.std.specs.Ordering.{int_cmp, ordering_then}
 use Rattle.std.specs.declared.cmp.Ordering.{Ordering}
 use Rattle.std.specs.declared.cmp.Ordering.TheVariants.{Less, Equal}
-use Rattle.dn_arc.specs.declared.difference.How.{How}
+use Rattle.dn_arc_theory.specs.declared.difference.How.{How}
 use Rattle.dn_instance.specs.Instances.{Instance, kind_of, nodes_of}
-use Rattle.dn_arc.specs.Pairs.{pair_cmp}
+use Rattle.dn_arc_theory.specs.Pairs.{pair_cmp}
 use Rattle.dn_compare.specs.Observed.{flow_of, source_of, sink_of, count_of, point_of}
 use Rattle.dn_compare.specs.FirstDifference.{Differ, BundlesDiffer, ItemsDiffer, IsTrueOf, StandsEarlier, IsFirstDifference}
 use Rattle.dn_instance.specs.declared.verdict.Verdict.{Verdict}

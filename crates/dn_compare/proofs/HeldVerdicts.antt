@@ -10,25 +10,25 @@ use Rattle.std.proofs.lemmas.Int.{ints}
 use Rattle.std.proofs.lemmas.Map.Lookups.{exact_signed}
 use Rattle.std.proofs.lemmas.Bool.{cases_Bool}
 use Rattle.dn_line.specs.declared.kind.Kind.{Kind}
-use Rattle.dn_arc.specs.Differences.{CurvesDiffer, LengthsDiffer, TotalsDiffer}
-use Rattle.dn_arc.specs.State.Bundles.{ArcDiffer, AreDifferences}
-use Rattle.dn_arc.specs.Kinds.{ArcKind, costs, capacities, lengths}
-use Rattle.dn_arc.specs.declared.arc.LengthArc.{LengthArc}
-use Rattle.dn_arc.specs.declared.arc.CapArc.{CapArc}
-use Rattle.dn_arc.specs.declared.arc.CostArc.{CostArc}
-use Rattle.dn_arc.specs.State.SingleArcs.{length_listed, cap_listed}
-use Rattle.dn_arc.specs.State.CurveListed.{listed}
-use Rattle.dn_arc.specs.declared.arc.Form.TheVariants.{One}
-use Rattle.dn_arc.specs.State.Curves.{CurveNumbers}
+use Rattle.dn_arc_theory.specs.Differences.{CurvesDiffer, LengthsDiffer, TotalsDiffer}
+use Rattle.dn_arc_theory.specs.State.Bundles.{ArcDiffer, AreDifferences}
+use Rattle.dn_arc_theory.specs.Kinds.{ArcKind, costs, capacities, lengths}
+use Rattle.dn_arc_theory.specs.declared.arc.LengthArc.{LengthArc}
+use Rattle.dn_arc_theory.specs.declared.arc.CapArc.{CapArc}
+use Rattle.dn_arc_theory.specs.declared.arc.CostArc.{CostArc}
+use Rattle.dn_arc_theory.specs.State.SingleArcs.{length_listed, cap_listed}
+use Rattle.dn_arc_theory.specs.State.CurveListed.{listed}
+use Rattle.dn_arc_theory.specs.declared.arc.Form.TheVariants.{One}
+use Rattle.dn_arc_theory.specs.State.Curves.{CurveNumbers}
 use Rattle.dn_bundle.specs.declared.least.Least.{Least}
 use Rattle.dn_bundle.specs.declared.total.Total.{Total}
-use Rattle.dn_arc.specs.declared.difference.How.{How}
-use Rattle.dn_arc.proofs.CostKindLaws.{cost_differs}
-use Rattle.dn_arc.proofs.TotalKindLaws.{total_differs}
-use Rattle.dn_arc.proofs.LengthKindLaws.{length_differs}
+use Rattle.dn_arc_theory.specs.declared.difference.How.{How}
+use Rattle.dn_arc_theory.proofs.CostKindLaws.{cost_differs}
+use Rattle.dn_arc_theory.proofs.TotalKindLaws.{total_differs}
+use Rattle.dn_arc_theory.proofs.LengthKindLaws.{length_differs}
 use Rattle.dn_instance.specs.State.Helds.{Contents, Parsed, OfMin, OfMax, OfSp, OfSs, OfP2p, OfCo, IsHeld, contents_kind}
 use Rattle.dn_instance.specs.Instances.{Graph, Instance, MinCostFlow, MaxFlow, ShortestPaths, Sources, Queries, Coordinates, kind_of, nodes_of}
-use Rattle.dn_arc.specs.Pairs.{bundle}
+use Rattle.dn_arc_theory.specs.Pairs.{bundle}
 use Rattle.dn_instance.specs.Sameness.{IsSame}
 use Rattle.dn_instance.proofs.HeldLaws.{held_kind}
 use Rattle.dn_table.specs.State.Tables.{TableLists}

@@ -6,8 +6,8 @@ use Rattle.std.specs.declared.cmp.Ordering.{Ordering}
 use Rattle.std.specs.declared.cmp.Ordering.TheVariants.{Less, Equal, Greater}
 use Rattle.std.proofs.lemmas.Cmp.{then_total, on_total, int_cmp_total}
 use Rattle.std.proofs.lemmas.Map.Lookups.{exact_pairs, exact_signed}
-use Rattle.dn_arc.specs.Pairs.{pair_cmp}
-use Rattle.dn_arc.proofs.PairLaws.{pair_total}
+use Rattle.dn_arc_theory.specs.Pairs.{pair_cmp}
+use Rattle.dn_arc_theory.proofs.PairLaws.{pair_total}
 use Rattle.dn_compare.specs.FirstDifference.{place_cmp, place_of, StandsEarlier}
 use Rattle.dn_instance.specs.declared.verdict.Verdict.{Verdict}
 

@@ -1,11 +1,11 @@
 -- Lemmas on which verdicts are true: they depend on the meaning, can be exchanged, and at most one is true at a place.
 use Rattle.std.proofs.Common.{◌≡◌, ℕ, ℤ, pos, refl, sym, ap}
-use Rattle.dn_arc.specs.declared.difference.How.{How}
-use Rattle.dn_arc.specs.declared.difference.How.TheVariants.{Lengths, Totals, Costs}
-use Rattle.dn_arc.proofs.CostKindLaws.{cost_differs}
-use Rattle.dn_arc.proofs.TotalKindLaws.{total_differs}
-use Rattle.dn_arc.proofs.LengthKindLaws.{length_differs}
-use Rattle.dn_arc.specs.Pairs.{bundle}
+use Rattle.dn_arc_theory.specs.declared.difference.How.{How}
+use Rattle.dn_arc_theory.specs.declared.difference.How.TheVariants.{Lengths, Totals, Costs}
+use Rattle.dn_arc_theory.proofs.CostKindLaws.{cost_differs}
+use Rattle.dn_arc_theory.proofs.TotalKindLaws.{total_differs}
+use Rattle.dn_arc_theory.proofs.LengthKindLaws.{length_differs}
+use Rattle.dn_arc_theory.specs.Pairs.{bundle}
 use Rattle.dn_instance.specs.Instances.{Instance, MinCostFlow, MaxFlow, ShortestPaths, Sources, Queries, Coordinates, kind_of, nodes_of}
 use Rattle.dn_instance.specs.Sameness.{IsSame}
 use Rattle.dn_instance.proofs.SameLaws.{sym_of, trans_of}

@@ -16,7 +16,7 @@ use Rattle.std.proofs.lemmas.Map.Keys.{sorted_head, sorted_tail, IsDistinct-from
 use Rattle.std.proofs.lemmas.Map.Lookups.{CmpEqualImpliesEq}
 use Rattle.dn_compare.specs.State.Walks.{first_key, value_at, after_key, lesser_key}
 use Rattle.dn_compare.specs.State.Partings.{Comparison, AlikeAt, IsParting}
-use Rattle.dn_arc.proofs.PairLaws.{equal_is, reversed}
+use Rattle.dn_arc_theory.proofs.PairLaws.{equal_is, reversed}
 
 module _ {K : Type 0} (cmp : K → K → Ordering) (total : IsTotalOrder cmp) (exact : CmpEqualImpliesEq cmp) where
   -- whether a key q is the key p that is sought

@@ -3,10 +3,10 @@ use Rattle.std.specs.Prelude.{◌≡◌, ◌≢◌, ℕ, ℤ, pos, Some}
 use Rattle.std.specs.Ordering.{int_cmp, ordering_then}
 use Rattle.std.specs.declared.cmp.Ordering.{Ordering}
 use Rattle.std.specs.declared.cmp.Ordering.TheVariants.{Less}
-use Rattle.dn_arc.specs.Differences.{CurvesDiffer, LengthsDiffer, TotalsDiffer}
-use Rattle.dn_arc.specs.declared.difference.How.{How}
+use Rattle.dn_arc_theory.specs.Differences.{CurvesDiffer, LengthsDiffer, TotalsDiffer}
+use Rattle.dn_arc_theory.specs.declared.difference.How.{How}
 use Rattle.dn_instance.specs.Instances.{Instance, MinCostFlow, MaxFlow, ShortestPaths, Sources, Queries, kind_of, nodes_of}
-use Rattle.dn_arc.specs.Pairs.{bundle, pair_cmp}
+use Rattle.dn_arc_theory.specs.Pairs.{bundle, pair_cmp}
 use Rattle.dn_instance.specs.Sameness.{IsSame}
 use Rattle.dn_compare.specs.Observed.{flow_of, source_of, sink_of, count_of, item_at, point_of}
 use Rattle.dn_instance.specs.declared.verdict.Verdict.{Verdict}

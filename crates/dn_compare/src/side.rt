@@ -5,7 +5,7 @@ ghost use Rattle.std.specs.Option.{option_copied, option_map};
 ghost use Rattle.std.specs.Ordering.{int_cmp};
 ghost use Rattle.std.specs.declared.cmp.Ordering.TheVariants.{Equal};
 ghost use Rattle.std.proofs.lemmas.Map.Lookups.{exact_pairs, exact_signed};
-ghost use Rattle.dn_arc.specs.declared.arc.Form.TheVariants.{One};
+ghost use Rattle.dn_arc_theory.specs.declared.arc.Form.TheVariants.{One};
 ghost use Rattle.dn_compare.specs.State.Partings.{Compares, Comparison, by_flow, by_meaning, by_point};
 ghost use Rattle.dn_compare.specs.State.Walks.{before_walk};
 

@@ -1,3 +1,4 @@
 pub mod Streams
+pub mod Takings
 pub mod Openers
 pub mod State

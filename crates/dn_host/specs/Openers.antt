@@ -3,8 +3,8 @@ use Rattle.std.specs.Prelude.{◌≡◌, ◌≢◌, ℕ, List, false, Option, So
 use Rattle.std.specs.Str.{bytes_eq}
 use Rattle.std.specs.declared.io.ErrorKind.{ErrorKind}
 use Rattle.std.specs.declared.io.ErrorKind.TheVariants.{OutOfMemory}
-use Rattle.dn_files.specs.declared.files.FilesFault.{FilesFault}
-use Rattle.dn_files.specs.declared.files.FilesFault.TheVariants as Files
+use Rattle.dn_host.specs.declared.files.FilesFault.{FilesFault}
+use Rattle.dn_host.specs.declared.files.FilesFault.TheVariants as Files
 
 -- the description of an opener of type O
 pub record OpenerFacts (O : Type 0) : Type 1 where

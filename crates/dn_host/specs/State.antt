@@ -1,3 +1,4 @@
+pub mod Takes
 pub mod Failures
 pub mod Devices
 pub mod HostTexts

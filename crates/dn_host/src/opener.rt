@@ -2,7 +2,7 @@
 ghost use Rattle.std.specs.Prelude.{IfErr, IfOk, codes};
 ghost use Rattle.std.specs.IoError.{error_kind};
 ghost use Rattle.dn_host.specs.Openers.{OpenerFacts, Remains, behind_of};
-ghost use Rattle.dn_files.specs.Takings.{KeepsOthers};
+ghost use Rattle.dn_host.specs.Takings.{KeepsOthers};
 
 use crate::stream::Stream;
 use std::io;

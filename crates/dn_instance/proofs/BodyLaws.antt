@@ -1,6 +1,6 @@
 -- Lemmas on taking one row into a body, and on a body of one kind as a body of any kind.
-use Rattle.std.proofs.Common.{◌≡◌, ℤ, List, [], ◌∷◌, ◌++◌, Bool, true, not, int_lt, ◌&&◌, IsTrue, ◌↔◌, Option, Some, Result, Err, OnOk, OnErr, refl, sym, ap, ◌∙◌, subst, ◌^◌, pos, arith, inl, inr, ◌<◌, filter_map, length-append, ℕ, length}
-use Rattle.std.proofs.lemmas.Result.{on_err_weaker, on_ok_weaker}
+use Rattle.std.proofs.Common.{◌≡◌, ℤ, List, [], ◌∷◌, ◌++◌, Bool, true, not, int_lt, ◌&&◌, IsTrue, ◌↔◌, Option, Some, Result, Err, OnOk, refl, sym, ap, ◌∙◌, subst, ◌^◌, pos, arith, inl, inr, ◌<◌, filter_map, length-append, ℕ, length}
+use Rattle.std.proofs.lemmas.Result.{on_ok_weaker}
 use Rattle.dn_line.specs.Faults.{first_fault}
 use Rattle.dn_line.specs.declared.code.Code.{Code}
 use Rattle.dn_line.specs.declared.code.Code.TheVariants.{NodeOutOfRange, LowAboveCap, RepeatedNode}
@@ -9,34 +9,35 @@ use Rattle.dn_line.specs.declared.kind.Kind.TheVariants as Kinds
 use Rattle.dn_line.specs.declared.line.Line.{Line}
 use Rattle.dn_line.specs.declared.line.Line.TheVariants as Item
 use Rattle.dn_line.specs.declared.row.Row.{Row}
-use Rattle.dn_arc.specs.State.Sizes.{cap_sizes, cost_sizes, length_sizes}
-use Rattle.dn_arc.specs.Kinds.{lengths, capacities, costs, ArcKind}
-use Rattle.dn_arc.specs.State.Bundles.{BundleFacts, meant}
+use Rattle.dn_arc_theory.specs.State.Sizes.{ArcSizes, cap_sizes, cost_sizes, length_sizes}
+use Rattle.dn_arc_theory.specs.Kinds.{lengths, capacities, costs, ArcKind}
+use Rattle.dn_arc_theory.specs.State.Bundles.{BundleFacts, meant}
 use Rattle.dn_nodes.specs.State.Nodes.{Gains, Nodes, is_known}
 use Rattle.dn_table.specs.State.Tables.{AreArcs, GraphNeedsMore, TableLists, Stays}
 use Rattle.dn_instance.specs.Items.{arcs_of, length_arc_in, cap_arc_in, cost_arc_in, Problem, problem_of, point_in, by_key}
 use Rattle.dn_instance.specs.TextFaults.{has_point, item_tests}
 use Rattle.dn_line.specs.LineTable.{is_companion}
-use Rattle.dn_instance.specs.State.Bodies.{Awaits, IsArcOfRow, Keeps, MapHolds, TableHolds, TookRow}
+use Rattle.dn_instance.specs.State.ArcTakes.{AnswersArc, GainsArc, NeedsForArc}
+use Rattle.dn_instance.specs.State.Bodies.{Awaits, MapHolds, TableHolds, TakesRow, TookRow}
 use Rattle.dn_instance.specs.State.ItemFaults.{AnswersFault, arc_fault, id_fault, in_graph, pair_fault, point_fault}
-use Rattle.dn_instance.specs.State.RowRuns.{counted_line}
+use Rattle.dn_instance.specs.State.RowHeads.{counted_line}
 use Rattle.dn_instance.specs.declared.refusal.ItemFault.{ItemFault}
 use Rattle.dn_instance.specs.declared.refusal.ItemFault.TheVariants.{Memory}
 use Rattle.dn_instance.proofs.ValidLaws.{grown}
 use Rattle.std.proofs.Math.Bool.{and-true, not-not}
 use Rattle.std.proofs.lemmas.Int.{ints}
 use Rattle.std.specs.List.{AllByRecursion}
-use Rattle.dn_arc.proofs.LengthsLaws.{least_of}
+use Rattle.dn_arc_theory.proofs.LengthsLaws.{least_of}
 use Rattle.dn_instance.proofs.SumLaws.{total_append, total_passes, cost_passes}
-use Rattle.dn_arc.proofs.TotalKindLaws.{total_some}
-use Rattle.dn_kind.proofs.BundleLaws.{all_end}
+use Rattle.dn_arc_theory.proofs.TotalKindLaws.{total_some}
+use Rattle.dn_bundle_trait.proofs.BundleLaws.{all_end}
 use Rattle.std.proofs.lemmas.Bool.Decides.{nat_tests}
-use Rattle.dn_arc.specs.Canonical.{IsCostArc}
-use Rattle.dn_arc.proofs.SplitsLaws.{SameAbove, same}
-use Rattle.dn_arc.proofs.CurvesLaws.{above_meaning, cost_cap_same}
-use Rattle.dn_arc.proofs.AddsLaws.{above_none}
-use Rattle.dn_arc.proofs.CostKindLaws.{cost_kind}
-use Rattle.dn_arc.specs.declared.arc.CostArc.{CostArc}
+use Rattle.dn_arc_theory.specs.Canonical.{IsCostArc}
+use Rattle.dn_arc_theory.proofs.SplitsLaws.{SameAbove, same}
+use Rattle.dn_arc_theory.proofs.CurvesLaws.{above_meaning, cost_cap_same}
+use Rattle.dn_arc_theory.proofs.AddsLaws.{above_none}
+use Rattle.dn_arc_theory.proofs.CostKindLaws.{cost_kind}
+use Rattle.dn_arc_theory.specs.declared.arc.CostArc.{CostArc}
 use Rattle.dn_table.specs.GraphEntries.{graph_entries}
 use Rattle.dn_instance.specs.EntryCount.{entries_as, entries_by}
 use Rattle.dn_instance.specs.Readers.{NeedsMemory}
@@ -45,6 +46,26 @@ use Rattle.dn_instance.proofs.MapLaws.{by_key_push, one_more_key, found_by_key, 
 use Rattle.dn_instance.proofs.ItemSteps.{problem_all}
 use Rattle.std.proofs.lemmas.Bool.{not-false}
 use Rattle.dn_instance.proofs.MarksLaws.{map_gains, on_ok_from}
+
+-- the first fault of an item is that of its arc, where `is` says whether a problem may have the arc
+pub record SaysFault {Arc : Type 0} (kind : ArcKind Arc) (nodes : ℤ) (arcs : List ((ℤ × ℤ) × Arc)) (a : (ℤ × ℤ) × Arc)
+    (found : Option Code) : Type 0 where
+  pub is : Bool
+  pub decides : IsTrue is ↔ kind.IsArc a.1
+  pub fault : found ≡ arc_fault kind nodes arcs is a
+
+-- the row's item is this arc, between the nodes of the first two numbers, and it has the faults of the arc and needs
+-- memory where the arc does
+pub record IsArcOfRow {Arc : Type 0} (text : Kind) (kind : ArcKind Arc) (sizes : ArcSizes Arc)
+    (arc_in : Line → Option ((ℤ × ℤ) × Arc)) (row : Row) (arc : Arc) : Type 0 where
+  pub in_line : arc_in (counted_line text row) ≡ Some ((row.first, row.second), arc)
+  pub faults : (nodes : ℤ) (before : List Line) → Awaits text nodes before (counted_line text row)
+      → SaysFault kind nodes (arcs_of arc_in before) ((row.first, row.second), arc)
+      (first_fault (item_tests before (Some (counted_line text row))))
+  pub needs : (nodes : ℤ) (before : List Line) → Awaits text nodes before (counted_line text row)
+      → GraphNeedsMore sizes (arcs_of arc_in before) ((row.first, row.second), arc)
+      → NeedsMemory before (counted_line text row)
+  pub stays : Stays kind
 
 no_arcs_more : {A : Type 0} (xs : List A) (a : A) → xs ++ a ∷ [] ≡ [] → ⊥
 no_arcs_more [] a e = cc
@@ -81,9 +102,9 @@ cost_stays xs a are is nothing =
     (arith, ints, all, cost_kind.capacity_append xs (a ∷ []), cost_kind.capacity_some xs are, is.some, is.room)))
 
 -- items that make more entries of their kind make more entries
-entries_more : (kind : Kind) (nodes : ℤ) (before next : List Line) (i : Line) → Awaits kind nodes before next
+entries_more : (kind : Kind) (nodes : ℤ) (before : List Line) (i : Line) → Awaits kind nodes before i
     → entries_as kind before < entries_as kind (before ++ i ∷ []) → NeedsMemory before i
-entries_more kind nodes before next i a more =
+entries_more kind nodes before i a more =
     inl (rw (problem_all before (i ∷ []) a.problem a.problem_is, a.problem_is, a.kind_is) more)
 
 -- an item of a list goes to its end
@@ -94,7 +115,7 @@ module _ {X : Type 0} (kind : Kind) (item_in : Line → Option X) where
       → first_fault (item_tests before (Some (counted_line kind row))) ≡ f)
       → ((items : List Line) → entries_as kind items ≡ length (filter_map item_in items)) → AnswersFault r f
       → OnOk r (list' ≡ list ++ x ∷ [])
-      → Awaits kind nodes before (counted_line kind row ∷ []) → list ≡ filter_map item_in before
+      → Awaits kind nodes before (counted_line kind row) → list ≡ filter_map item_in before
       → TookRow before (λ items. list' ≡ filter_map item_in items) (counted_line kind row) r
   list_took nodes list list' row x f r before is faults entries ans ok a was =
       let i = counted_line kind row in
@@ -102,7 +123,7 @@ module _ {X : Type 0} (kind : Kind) (item_in : Line → Option X) where
       record {
         answer = record {
           fault = rw (faults a.problem a.problem_is a.kind_is) ans;
-          memory = λ out. entries_more kind nodes before _ i a
+          memory = λ out. entries_more kind nodes before i a
               (rw (entries before, entries (before ++ i ∷ []), more)
               (omega (arith, length-append (filter_map item_in before) (x ∷ []))));
         };
@@ -122,7 +143,7 @@ pair_faults before q p h k = simp (h, ap is_companion k, and-true)
 pub points_took : (nodes : ℤ) (points points' : Nodes (ℤ × ℤ)) (row : Row) (r : Result (Unit {0}) ItemFault)
     (before : List Line) → AnswersFault r (point_fault (is_known points row.first) row.first)
     → OnOk r (Gains points row.first (Some (row.second, row.third)) points')
-    → Awaits Kinds.Co nodes before (counted_line Kinds.Co row ∷ []) → MapHolds point_in has_point points before
+    → Awaits Kinds.Co nodes before (counted_line Kinds.Co row) → MapHolds point_in has_point points before
     → TookRow before (MapHolds point_in has_point points') (counted_line Kinds.Co row) r
 points_took nodes points points' row r before ans ok a was =
     let id = row.first in
@@ -138,7 +159,7 @@ points_took nodes points points' row r before ans ok a was =
             let new =
             one_more_key id (row.second, row.third) (by_key es)
             (found_by_key id es ∙ points_named id before ∙ sym known ∙ once) in
-            entries_more Kinds.Co nodes before _ i a
+            entries_more Kinds.Co nodes before i a
             (rw (grown point_in before i (id, (row.second, row.third)) refl, by_key_push) (omega (arith, new)));
       };
       holds =
@@ -148,25 +169,21 @@ points_took nodes points points' row r before ans ok a was =
     }
 
 module _ {B Arc : Type 0} (text : Kind) (arc_in : Line → Option ((ℤ × ℤ) × Arc)) (b : BundleFacts B Arc) where
-  pub table_took : (nodes : ℤ) (t t' : List ((ℤ × ℤ) × B)) (row : Row) (arc : Arc) (r : Result (Unit {0}) ItemFault)
-      (before : List Line) → IsArcOfRow text b.kind b.sizes arc_in row arc
-      → ((is : Bool) → AreArcs b.kind (arcs_of arc_in before) → (IsTrue is ↔ b.kind.IsArc arc)
-      → AnswersFault r (arc_fault b.kind nodes (arcs_of arc_in before) is ((row.first, row.second), arc)))
-      → (AreArcs b.kind (arcs_of arc_in before)
-      → OnOk r (TableLists b.kind (meant b) t' (arcs_of arc_in before ++ ((row.first, row.second), arc) ∷ [])))
-      → (AreArcs b.kind (arcs_of arc_in before) → r ≡ Err Memory
-      → GraphNeedsMore b.sizes (arcs_of arc_in before) ((row.first, row.second), arc))
-      → Awaits text nodes before (counted_line text row ∷ []) → TableHolds b.kind arc_in (meant b) t before
-      → TookRow before (TableHolds b.kind arc_in (meant b) t') (counted_line text row) r
-  table_took nodes t t' row arc r before w ans ok out a was =
+  -- an arc of a row that a table takes
+  pub arc_took : (nodes : ℤ) (t t' : List ((ℤ × ℤ) × B)) (row : Row) (arc : Arc) (r : Result (Unit {0}) ItemFault)
+      → IsArcOfRow text b.kind b.sizes arc_in row arc → AnswersArc b nodes t ((row.first, row.second), arc) r
+      → GainsArc b t t' ((row.first, row.second), arc) r → NeedsForArc b t ((row.first, row.second), arc) r
+      → TakesRow text nodes (TableHolds b.kind arc_in (meant b) t) (TableHolds b.kind arc_in (meant b) t')
+      (counted_line text row) r
+  arc_took nodes t t' row arc r w ans gains needs before a was =
       let arcs = arcs_of arc_in before in
       let says = w.faults nodes before a in
       let placed : (ℤ × ℤ) × Arc = ((row.first, row.second), arc) in
-      let found = ans says.is was.are_arcs says.decides in
+      let found = ans arcs says.is was.lists_them was.are_arcs says.decides in
       record {
         answer = record {
           fault = rw says.fault found;
-          memory = λ e. w.needs nodes before _ a (out was.are_arcs e);
+          memory = λ e. w.needs nodes before a (needs arcs was.lists_them was.are_arcs e);
         };
         holds =
             on_ok_from r (arc_fault b.kind nodes arcs says.is placed) found (λ f lists.
@@ -176,12 +193,8 @@ module _ {B Arc : Type 0} (text : Kind) (arc_in : Line → Option ((ℤ × ℤ) 
             record {
               lists_them = rw more lists;
               are_arcs = rw more (all_end (λ x. b.kind.IsArc x.1) arcs placed was.are_arcs (says.decides.0 is));
-            }) (ok was.are_arcs);
+            }) (gains arcs w.stays was.lists_them was.are_arcs);
       }
-
-  pub table_same : (t t' : List ((ℤ × ℤ) × B)) (r : Result (Unit {0}) ItemFault) → OnErr r (t' ≡ t)
-      → OnErr r (Keeps (TableHolds b.kind arc_in (meant b) t) (TableHolds b.kind arc_in (meant b) t'))
-  table_same t t' r same = on_err_weaker r (λ e items h. rw e h) same
 
 -- the arcs that rows spell
 pub length_row : (row : Row)
@@ -193,9 +206,9 @@ length_row row = record {
     decides = (λ x. tt, λ x. refl);
     fault = rw (a.problem_is, a.kind_is, a.nodes_are, and-true);
   };
-  needs = λ nodes before next a more. elim more [
+  needs = λ nodes before a more. elim more [
     | inl m ↦
-        entries_more Kinds.Sp nodes before next (counted_line Kinds.Sp row) a
+        entries_more Kinds.Sp nodes before (counted_line Kinds.Sp row) a
         (rw (grown length_arc_in before (counted_line Kinds.Sp row) _ refl) m)
     | inr m ↦ absurd m
   ];
@@ -209,12 +222,12 @@ cap_row row = record {
       let sum = total_passes (arcs_of cap_arc_in before) ((row.first, row.second), record { cap = row.third }) in
       record {
         is = true;
-        decides = (λ x. record { some = a.signs.0 }, λ x. refl);
+        decides = (λ x. record { some = a.signs }, λ x. refl);
         fault = rw (a.problem_is, a.kind_is, a.nodes_are, and-true, sum);
       };
-  needs = λ nodes before next a more. elim more [
+  needs = λ nodes before a more. elim more [
     | inl m ↦
-        entries_more Kinds.Max nodes before next (counted_line Kinds.Max row) a
+        entries_more Kinds.Max nodes before (counted_line Kinds.Max row) a
         (rw (grown cap_arc_in before (counted_line Kinds.Max row) _ refl) m)
     | inr m ↦ absurd m
   ];
@@ -234,14 +247,14 @@ cost_row row =
           record {
             is = not above;
             decides = (
-              λ h. record { some = a.signs.0.0; room = grind (arith, ints, nat_tests, h) },
+              λ h. record { some = a.signs.0; room = grind (arith, ints, nat_tests, h) },
               λ is. grind (arith, ints, nat_tests, is.room),
             );
             fault = rw (a.problem_is, a.kind_is, a.nodes_are, and-true, not-not above, passes);
           };
-      needs = λ nodes before next a more. elim more [
+      needs = λ nodes before a more. elim more [
         | inl m ↦
-            entries_more Kinds.Min nodes before next (counted_line Kinds.Min row) a
+            entries_more Kinds.Min nodes before (counted_line Kinds.Min row) a
             (rw (grown cost_arc_in before (counted_line Kinds.Min row) _ refl) m)
         | inr m ↦ inr m
       ];

@@ -8,11 +8,11 @@ use Rattle.dn_line.specs.declared.kind.Kind.{Kind}
 use Rattle.dn_line.specs.declared.kind.Kind.TheVariants.{Max}
 use Rattle.dn_line.specs.declared.kind.Letter.TheVariants.{S, T}
 use Rattle.dn_line.specs.declared.line.Line.{Line}
-use Rattle.dn_arc.specs.Kinds.{capacities, costs, lengths}
-use Rattle.dn_arc.specs.State.CurveListed.{listed}
-use Rattle.dn_arc.specs.State.Curves.{CurveNumbers}
-use Rattle.dn_arc.specs.State.SingleArcs.{cap_listed, length_listed}
-use Rattle.dn_arc.specs.declared.arc.Form.TheVariants.{One}
+use Rattle.dn_arc_theory.specs.Kinds.{capacities, costs, lengths}
+use Rattle.dn_arc_theory.specs.State.CurveListed.{listed}
+use Rattle.dn_arc_theory.specs.State.Curves.{CurveNumbers}
+use Rattle.dn_arc_theory.specs.State.SingleArcs.{cap_listed, length_listed}
+use Rattle.dn_arc_theory.specs.declared.arc.Form.TheVariants.{One}
 use Rattle.dn_table.proofs.GrownLaws.{stands_as}
 use Rattle.dn_instance.specs.Instances.{Instance, MaxFlow}
 use Rattle.dn_instance.specs.Items.{counted, terminal_of, graph_of, arcs_of, cap_arc_in, cost_arc_in, length_arc_in, instance_as}

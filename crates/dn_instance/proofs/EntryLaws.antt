@@ -1,17 +1,17 @@
 -- Lemmas on the number of entries of an instance, given its size, and of the content of a parsed instance.
 use Rattle.std.proofs.Common.{◌≡◌, ◌*◌, ◌≤◌, ◌<◌, ◌^◌, ℤ, pos, FitsSigned, w64, List, [], ◌∷◌, subst, arith, ℕ, length, ap}
 use Rattle.std.specs.List.{AllByRecursion}
-use Rattle.dn_arc.specs.Entries.{cap_entries, cost_entries, length_entries}
-use Rattle.dn_arc.specs.Kinds.{ArcKind, costs, capacities, lengths}
+use Rattle.dn_arc_theory.specs.Entries.{cap_entries, cost_entries, length_entries}
+use Rattle.dn_arc_theory.specs.Kinds.{ArcKind, costs, capacities, lengths}
 use Rattle.dn_table.specs.State.Tables.{AreArcs, TableLists}
 use Rattle.dn_table.proofs.EntryLaws.{Pair, graph_few, costs_few, capacities_few, lengths_few}
 use Rattle.dn_instance.specs.State.InstanceEntries.{entries_of}
 use Rattle.dn_instance.specs.Instances.{Instance, MinCostFlow, MaxFlow, ShortestPaths, Sources, Queries, Coordinates, size_of}
 use Rattle.dn_instance.specs.Validity.{IsPlaced, IsValid}
-use Rattle.dn_arc.specs.State.CurveListed.{listed}
-use Rattle.dn_arc.specs.State.SingleArcs.{length_listed, cap_listed}
-use Rattle.dn_arc.specs.declared.arc.Form.TheVariants.{One}
-use Rattle.dn_arc.specs.State.Curves.{CurveNumbers}
+use Rattle.dn_arc_theory.specs.State.CurveListed.{listed}
+use Rattle.dn_arc_theory.specs.State.SingleArcs.{length_listed, cap_listed}
+use Rattle.dn_arc_theory.specs.declared.arc.Form.TheVariants.{One}
+use Rattle.dn_arc_theory.specs.State.Curves.{CurveNumbers}
 use Rattle.dn_bundle.specs.declared.least.Least.{Least}
 use Rattle.dn_bundle.specs.declared.total.Total.{Total}
 use Rattle.dn_table.specs.GraphEntries.{graph_entries}

@@ -10,7 +10,7 @@ use Rattle.dn_line.specs.Words.{said_words}
 use Rattle.dn_line.specs.Pieces.{lines}
 use Rattle.dn_instance.specs.declared.refusal.Place.{Place}
 use Rattle.dn_instance.specs.declared.refusal.Place.TheVariants as Places
-use Rattle.dn_arc.specs.declared.arc.CapArc.{CapArc}
+use Rattle.dn_arc_theory.specs.declared.arc.CapArc.{CapArc}
 use Rattle.dn_line.specs.declared.code.Code.TheVariants.{NoProblem, MissingTerminal}
 use Rattle.dn_instance.specs.Instances.{Graph, Instance}
 use Rattle.dn_instance.specs.Items.{Problem, problem_of, instance_of, instance_as, terminal_of, kind_known, max_flow, graph_of, cap_arc_in}

@@ -18,7 +18,7 @@ use Rattle.dn_line.proofs.SpellingLaws.{faultless_spells}
 use Rattle.dn_instance.specs.Items.{kind_known, is_counted}
 use Rattle.dn_instance.specs.TextFaults.{order_tests, line_tests, item_tests, item_spelled, is_counted_letter}
 use Rattle.dn_instance.specs.State.ItemFaults.{is_late_node, is_surplus}
-use Rattle.dn_instance.specs.State.RowRuns.{HasSigns}
+use Rattle.dn_instance.specs.State.RowHeads.{HasSigns}
 use Rattle.dn_instance.specs.Texts.{with_next}
 use Rattle.dn_instance.specs.State.TextsSoFar.{next_read, fault_next, MayFollow}
 use Rattle.dn_instance.proofs.FirstFaults.{none_first}
@@ -80,16 +80,6 @@ signs (Item.Aux P2p _) (w ∷ v ∷ u ∷ t ∷ s ∷ ws) f = f.1.1.1.1.0.1
 signs (Item.Aux Co _) (w ∷ v ∷ u ∷ t ∷ s ∷ ws) f = f.1.1.1.1.0.1
 signs (Item.Aux _ _) _ f = absurd assumption
 signs _ ws f = tt
-
--- LOW, CAP, ARCS and K of the item of a line without a fault are at least 0
-pub fields_signs : (known : Option Kind) (ws : List Word) (i : Line) → is_skip ws ≡ false
-    → first_fault (head_tests known ws) ≡ None → fields_read known ws ≡ Ok i → HasSigns i
-fields_signs known ws i e head h =
-    let f = unless_ok (first_fault (field_tests (fields known ws))) (spelled known ws) i (rw e at h) in
-    let s =
-    faultless_spells known ws (rw (fault_append (head_tests known ws) (field_tests (fields known ws)), head) f.0) in
-    let fit : FitSome (slots_of (spelled known ws)) ws = rw s.slots_are s.fit in
-    rw f.1 at (signs (spelled known ws) ws fit)
 
 -- the line of a counted item has the letter of a counted line
 letter : (i : Line) (ws : List Word) → FitSome (slots_of i) ws → is_counted i ≡ true
@@ -210,25 +200,9 @@ pub skip_only : (before : List Line) (ws : List Word) → next_read before ws �
 skip_only before ws h =
     elim (cases_Bool (is_skip ws)) [ inl e ↦ e | inr e ↦ cc (follows_as before ws e Item.Skip h).may.spelled ]
 
--- a skipped line reads as `Skip`, and has no fault
-pub skips : (before : List Line) (ws : List Word) → is_skip ws ≡ true → next_read before ws ≡ Ok Item.Skip
-skips before ws e = rw e
-
+-- a skipped line has no fault
 pub skip_faultless : (before : List Line) (ws : List Word) → is_skip ws ≡ true → fault_next before ws ≡ None
 skip_faultless before ws e = rw e
-
--- a line that reads as an item other than `Skip` is not skipped
-not_skipped : (before : List Line) (ws : List Word) (i : Line) → next_read before ws ≡ Ok i → (i ≡ Item.Skip → ⊥)
-    → is_skip ws ≡ false
-not_skipped before ws i h n = elim (cases_Bool (is_skip ws)) [ inl e ↦ absurd (n (cc (rw e at h))) | inr e ↦ e ]
-
-module _ (before : List Line) (ws : List Word) (i : Line) (e : is_skip ws ≡ false) (f : Follows before ws e i) where
-  -- the first fault of the line is that of its item, and the line adds this item
-  pub same_fault : fault_next before ws ≡ first_fault (item_tests before (Some i))
-  same_fault = cond-false (is_skip ws) None _ e ∙ f.faults
-
-  pub adds_it : with_next before ws ≡ before ++ i ∷ []
-  adds_it = rw f.reads
 
 -- an item may follow the items before it, has the first fault of its line, and is what the line adds
 pub record IsNextItem (before : List Line) (ws : List Word) (i : Line) : Type 0 where
@@ -236,12 +210,11 @@ pub record IsNextItem (before : List Line) (ws : List Word) (i : Line) : Type 0 
   pub fault : fault_next before ws ≡ first_fault (item_tests before (Some i))
   pub adds : with_next before ws ≡ before ++ i ∷ []
 
-pub next_item : (before : List Line) (ws : List Word) (i : Line) → next_read before ws ≡ Ok i → (i ≡ Item.Skip → ⊥)
+pub next_item : (before : List Line) (ws : List Word) (i : Line) → is_skip ws ≡ false → next_read before ws ≡ Ok i
     → IsNextItem before ws i
-next_item before ws i h n =
-    let e = not_skipped before ws i h n in
+next_item before ws i e h =
     let f = follows_as before ws e i h in
-    record { may = f.may; fault = same_fault before ws i e f; adds = adds_it before ws i e f }
+    record { may = f.may; fault = cond-false (is_skip ws) None _ e ∙ f.faults; adds = rw f.reads }
 
 -- a fault up to the fields is the first fault of the line
 pub line_refused : (before : List Line) (ws : List Word) (c : Code) → next_read before ws ≡ Err c

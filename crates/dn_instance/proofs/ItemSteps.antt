@@ -1,12 +1,12 @@
 -- Lemmas on the items that have been read and one more item.
-use Rattle.std.proofs.Common.{◌≡◌, ◌<◌, ℕ, ◌+◌, ℤ, pos, ◌<ℤ◌, List, [], ◌∷◌, ◌++◌, filter, true, false, not, ◌||◌, ◌≤ℤ◌, ◌+ℤ◌, length, int_lt, Option, Some, None, is_some, IsSome, refl, sym, ap, ◌∙◌, arith, ◌^◌, suc, add-one, append-nil, length-append, option_map}
+use Rattle.std.proofs.Common.{◌≡◌, ◌<◌, ℕ, ℤ, pos, ◌<ℤ◌, List, [], ◌∷◌, ◌++◌, filter, true, false, not, ◌≤ℤ◌, ◌+ℤ◌, ◌-ℤ◌, int_lt, Option, Some, None, is_some, IsSome, refl, sym, ap, ◌∙◌, arith, ◌^◌, suc, add-one, append-nil, length-append, option_map}
 use Rattle.std.proofs.lemmas.List.Elements.{filter-append}
 use Rattle.std.proofs.lemmas.Bool.{not-false, not-true}
 use Rattle.std.proofs.lemmas.Int.{ints}
 use Rattle.std.proofs.lemmas.Bool.Decides.{nat_tests}
 use Rattle.std.proofs.lemmas.List.Folds.{list_any-append}
-use Rattle.std.proofs.Math.Bool.{or-false}
-use Rattle.std.specs.List.{AllByRecursion, list_any}
+use Rattle.std.proofs.Math.Bool.{or-false, or-true}
+use Rattle.std.specs.List.{list_any}
 use Rattle.std.specs.Option.{option_or}
 use Rattle.dn_line.specs.declared.line.Line.{Line}
 use Rattle.dn_line.specs.declared.line.Line.TheVariants as Item
@@ -17,11 +17,11 @@ use Rattle.dn_instance.specs.Items.{Problem, problem_of, problem_in, kind_known,
 use Rattle.dn_instance.specs.TextFaults.{is_arc}
 use Rattle.dn_line.specs.LineTable.{is_companion}
 use Rattle.dn_instance.specs.State.TextParts.{AnyBody, BodyHolds, MarksHold, body_kind}
-use Rattle.dn_instance.specs.State.RowRuns.{HasRoomFor}
+use Rattle.dn_instance.specs.State.RowHeads.{HasRoomFor}
 use Rattle.dn_instance.specs.State.TextsSoFar.{AwaitsRow, HasRead, HoldsBody, problem_as, text_kind}
 use Rattle.dn_instance.specs.declared.marks.Marks.{Marks}
 use Rattle.dn_instance.specs.declared.text_so_far.TextSoFar.{TextSoFar}
-use Rattle.dn_instance.proofs.MarksLaws.{IsNoMark, body_kept, marks_kept, holds_kept, no_item}
+use Rattle.dn_instance.proofs.MarksLaws.{IsNoMark, body_kept, mark_kept, holds_kept, no_item}
 
 -- the body is of the declared kind
 pub kind_agrees : (t : TextSoFar) (items : List Line) → HasRead t items → kind_known items ≡ text_kind t
@@ -109,52 +109,39 @@ has_due t items i kind at is room y =
     above : (d : ℤ) → int_lt (pos 0) d ≡ true → pos 1 ≤ℤ d
     above d h = grind (arith, ints, nat_tests)
 
--- more items that are not counted have been read
-pub marks_read : (t : TextSoFar) (h : Marks) (before items : List Line) (kind : Kind) → HasRead t before
-    → text_kind t ≡ Some kind → AllByRecursion (λ i. is_counted i ≡ false) items → filter is_counted items ≡ []
-    → list_any is_arc items ≡ false → MarksHold h (before ++ items) → HasRead (record t { marks = h }) (before ++ items)
-marks_read t h before items kind at is free none no_arc held =
-    let same : counted (before ++ items) ≡ counted before =
-    ap length (filter-append is_counted before items ∙ rw (none, append-nil)) in
-    record {
-      problem_is = rw is (problem_all before items _ (problem_agrees t before kind at is));
-      count_fits = at.count_fits;
-      due_is = rw same at.due_is;
-      due_some = at.due_some;
-      arcs_are = λ graph. rw (list_any-append is_arc before items, no_arc, or-false) (at.arcs_are graph);
-      marks_hold = held;
-      body_holds = holds_kept t.body kind is before items free at.body_holds;
-    }
+-- an `n` line has been read
+pub marks_read : (t : TextSoFar) (h : Marks) (before : List Line) (i : Line) (kind : Kind) → HasRead t before
+    → text_kind t ≡ Some kind → is_counted i ≡ false → is_arc i ≡ false → MarksHold h (before ++ i ∷ [])
+    → HasRead (record t { marks = h }) (before ++ i ∷ [])
+marks_read t h before i kind at is free no_arc held = record {
+  problem_is = rw is (problem_all before (i ∷ []) _ (problem_agrees t before kind at is));
+  count_fits = at.count_fits;
+  due_is = rw (counted_no before i free) at.due_is;
+  due_some = at.due_some;
+  arcs_are = λ graph. rw (list_any-append is_arc before (i ∷ []), no_arc, or-false) (at.arcs_are graph);
+  marks_hold = held;
+  body_holds = holds_kept t.body kind is before i free at.body_holds;
+}
 
--- more counted items have been read
-pub body_read : (t : TextSoFar) (b : AnyBody) (before items : List Line) (kind : Kind) (d : ℤ) → HasRead t before
-    → text_kind t ≡ Some kind → body_kind b ≡ kind
-    → (is_companion kind ≡ false → list_any is_arc items ≡ int_lt (pos 0) (pos (counted items)))
-    → pos (counted items) +ℤ d ≡ t.due → pos 0 ≤ℤ d → MarksHold t.marks (before ++ items)
-    → BodyHolds b (before ++ items)
-    → HasRead (record t { due = d; body = Some b }) (before ++ items)
-body_read t b before items kind d at is kept arcs e some marks held =
-    let all : counted (before ++ items) ≡ counted before + counted items =
-    rw (filter-append is_counted before items) (length-append (filter is_counted before) (filter is_counted items)) in
-    record {
-      problem_is = rw kept (problem_all before items _ (problem_agrees t before kind at is));
-      count_fits = at.count_fits;
-      due_is = rw all (omega (arith, ints, at.due_is, e));
-      due_some = some;
-      arcs_are = λ graph.
-          rw (
-            list_any-append is_arc before items,
-            at.arcs_are (rw (is, ← kept) graph),
-            arcs (not-true _ (rw kept at graph)),
-          )
-          (sum (counted before) (counted items) d t.due t.count e at.due_is);
-      marks_hold = marks;
-      body_holds = held;
-    }
+-- a counted line has been read
+pub body_read : (t : TextSoFar) (b : AnyBody) (before : List Line) (i : Line) (kind : Kind) → HasRead t before
+    → text_kind t ≡ Some kind → body_kind b ≡ kind → is_counted i ≡ true
+    → (is_companion kind ≡ false → is_arc i ≡ true) → IsNoMark i → pos 1 ≤ℤ t.due → BodyHolds b (before ++ i ∷ [])
+    → HasRead (record t { due = t.due -ℤ pos 1; body = Some b }) (before ++ i ∷ [])
+body_read t b before i kind at is kept one arc no_mark some held = record {
+  problem_is = rw kept (problem_all before (i ∷ []) _ (problem_agrees t before kind at is));
+  count_fits = at.count_fits;
+  due_is = rw (counted_yes before i one) (omega (arith, ints, at.due_is));
+  due_some = omega (arith, ints);
+  arcs_are = λ graph.
+      rw (list_any-append is_arc before (i ∷ []), arc (not-true _ (rw kept at graph)), or-true)
+      (late (counted before) t.due t.count at.due_is);
+  marks_hold = mark_kept t.marks before i no_mark at.marks_hold;
+  body_holds = held;
+}
   where
-    sum : (k m : ℕ) (d u c : ℤ) → pos m +ℤ d ≡ u → pos k +ℤ u ≡ c
-        → (int_lt u c || int_lt (pos 0) (pos m)) ≡ int_lt d c
-    sum k m d u c e f = grind (arith, ints, nat_tests)
+    late : (k : ℕ) (d c : ℤ) → pos k +ℤ d ≡ c → true ≡ int_lt (d -ℤ pos 1) c
+    late k d c e = grind (arith, ints, nat_tests)
 
 -- a problem line belongs to no kind, is not an arc, and is not counted
 heads : (i : Line) → IsSome (problem_in i) → (kind_before i ≡ None) × (list_any is_arc (i ∷ []) ≡ false)
@@ -185,7 +172,7 @@ begun t u b before i p a is body kind same_problem fits due some same holds =
       due_is = rw (head.2, due) (omega (arith, ints));
       due_some = rw due some;
       arcs_are = λ graph. rw (head.1, due) (below u.count);
-      marks_hold = rw same (marks_kept t.marks [] (i ∷ []) (other.1, tt) (rw first at a.read.marks_hold));
+      marks_hold = rw same (mark_kept t.marks [] i other.1 (rw first at a.read.marks_hold));
       body_holds = rw body (body_kept b [] i other.0 holds);
     })
   where

@@ -14,8 +14,7 @@ pub mod ReaderLaws
 pub mod SizeLaws
 pub mod SourceLaws
 pub mod EntryLaws
-pub mod RowRunLaws
-pub mod OrderLaws
+pub mod RowTakes
 pub mod RowLinesLaws
 pub mod MarksLaws
 pub mod BodyLaws

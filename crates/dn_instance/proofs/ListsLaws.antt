@@ -3,20 +3,20 @@ use Rattle.std.proofs.Common.{◌≡◌, ◌↔◌, ℤ, pos, ◌<ℤ◌, ◌-�
 use Rattle.std.proofs.lemmas.Bool.{cases_Bool, cond_both}
 use Rattle.std.specs.List.{AllByRecursion}
 use Rattle.std.specs.Map.{lookup}
-use Rattle.dn_arc.specs.declared.arc.Form.TheVariants.{One}
-use Rattle.dn_arc.specs.Kinds.{ArcKind}
-use Rattle.dn_arc.specs.State.CanonArcs.{AreCanonArcsOf}
-use Rattle.dn_arc.specs.State.Bundles.{IsKind, listed_of}
-use Rattle.dn_arc.proofs.OrdersLaws.{same_push}
-use Rattle.dn_arc.specs.Pairs.{bundle, same_pair}
+use Rattle.dn_arc_theory.specs.declared.arc.Form.TheVariants.{One}
+use Rattle.dn_arc_theory.specs.Kinds.{ArcKind}
+use Rattle.dn_arc_theory.specs.State.CanonArcs.{AreCanonArcsOf}
+use Rattle.dn_arc_theory.specs.State.Bundles.{IsKind, listed_of}
+use Rattle.dn_arc_theory.proofs.OrdersLaws.{same_push}
+use Rattle.dn_arc_theory.specs.Pairs.{bundle, same_pair}
 use Rattle.dn_table.specs.State.Tables.{listed_at, Grows, TableLists, AreArcs, Stays}
-use Rattle.dn_arc.proofs.PairLaws.{pair_is, pair_self, bundle_push}
+use Rattle.dn_arc_theory.proofs.PairLaws.{pair_is, pair_self, bundle_push}
 use Rattle.dn_table.proofs.PairLaws.{other_pair}
 use Rattle.dn_instance.proofs.SumLaws.{passes}
 use Rattle.dn_instance.specs.State.ItemFaults.{in_graph, arc_fault}
 use Rattle.dn_line.specs.declared.code.Code.TheVariants.{SumTooLarge}
 use Rattle.std.proofs.lemmas.Int.{ints, by_lt_z}
-use Rattle.dn_kind.proofs.BundleLaws.{all_end}
+use Rattle.dn_bundle_trait.proofs.BundleLaws.{all_end}
 
 module _ {B Arc : Type 0} (kind : ArcKind Arc) (lists : B → List Arc) (laws : IsKind kind)
     (canonical : (b : B) → kind.IsCanon One (lists b)) where

@@ -13,7 +13,7 @@ use Rattle.std.specs.declared.cmp.Ordering.TheVariants.{Less, Equal, Greater}
 use Rattle.std.proofs.lemmas.Cmp.{int_cmp_total, int_eq_equiv}
 use Rattle.std.proofs.lemmas.Map.Lookups.{CmpEqualImpliesEq, exact_signed}
 use Rattle.std.proofs.lemmas.List.Sums.{fold-append}
-use Rattle.dn_arc.proofs.PairLaws.{int_self, equal_is, self_equal}
+use Rattle.dn_arc_theory.proofs.PairLaws.{int_self, equal_is, self_equal}
 use Rattle.dn_instance.specs.Items.{by_key, point_in}
 use Rattle.std.proofs.lemmas.Int.{ints}
 use Rattle.std.proofs.lemmas.Bool.Decides.{nat_tests}

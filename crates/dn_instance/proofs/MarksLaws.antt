@@ -1,8 +1,7 @@
 -- Lemmas on `n` lines: what the marks hold after them, and that other lines keep what the marks hold.
-use Rattle.std.proofs.Common.{arith, ◌≡◌, ℤ, List, [], ◌∷◌, ◌++◌, true, false, ◌||◌, not, Option, Some, None, is_some, IsSome, Result, Ok, Err, OnOk, OnErr, refl, sym, ◌∙◌, append-nil, append_assoc, inr, filter_map, pos, Bool, cond, int_cmp, int_eq, option_map, rules}
+use Rattle.std.proofs.Common.{arith, ◌≡◌, ℤ, List, [], ◌∷◌, ◌++◌, true, false, ◌||◌, not, Option, Some, None, is_some, IsSome, Result, Ok, Err, OnOk, OnErr, refl, sym, ◌∙◌, inr, filter_map, pos, Bool, cond, int_cmp, int_eq, option_map, rules}
 use Rattle.dn_instance.proofs.CleanItems.{or_none}
 use Rattle.dn_instance.proofs.ValidLaws.{terminal_more, kept, grown}
-use Rattle.std.specs.List.{AllByRecursion}
 use Rattle.std.proofs.Math.Bool.{or-false, and-true}
 use Rattle.std.proofs.lemmas.List.Folds.{list_any-append}
 use Rattle.std.proofs.lemmas.Result.{on_err_weaker, on_ok_weaker}
@@ -14,9 +13,8 @@ use Rattle.dn_line.specs.declared.kind.Letter.TheVariants.{S, T}
 use Rattle.dn_line.specs.declared.line.Line.{Line}
 use Rattle.dn_line.specs.declared.line.Line.TheVariants as Item
 use Rattle.dn_line.specs.declared.row.Row.{Row}
-use Rattle.dn_line.specs.declared.row_block.RowLine.{RowLine}
 use Rattle.dn_nodes.specs.State.Nodes.{Gains, Nodes, is_known, with_entry}
-use Rattle.dn_arc.specs.Kinds.{capacities, costs, lengths, ArcKind}
+use Rattle.dn_arc_theory.specs.Kinds.{capacities, costs, lengths, ArcKind}
 use Rattle.dn_instance.specs.Items.{by_key, cap_arc_in, cost_arc_in, is_counted, length_arc_in, point_in, problem_in, query_in, source_in, supply_in, terminal_in, terminal_of}
 use Rattle.dn_instance.specs.TextFaults.{has_point, has_supply}
 use Rattle.dn_line.specs.LineTable.{is_companion}
@@ -24,7 +22,7 @@ use Rattle.dn_instance.specs.State.Bodies.{Keeps, MapHolds, TakesRow, TableHolds
 use Rattle.dn_instance.specs.State.TextParts.{AnyBody, BodyHolds, MarksHold, body_kind}
 use Rattle.dn_instance.specs.State.TextsSoFar.{HoldsBody}
 use Rattle.dn_instance.specs.State.ItemFaults.{AnswersFault, in_graph, terminal_fault, supply_fault}
-use Rattle.dn_instance.specs.State.RowRuns.{counted_line, row_items}
+use Rattle.dn_instance.specs.State.RowHeads.{counted_line}
 use Rattle.dn_instance.specs.declared.body.Body.TheVariants as Bodies
 use Rattle.dn_instance.specs.declared.marks.Marks.{Marks}
 use Rattle.dn_instance.specs.declared.refusal.ItemFault.{ItemFault}
@@ -48,21 +46,9 @@ pub record IsNoMark (i : Line) : Type 0 where
   pub terminal : (l : Letter) → terminal_in l i ≡ None
 
 -- the item of a counted row is no `n` line
-row_no_mark : (kind : Kind) (r : Row) → IsNoMark (counted_line kind r)
+pub row_no_mark : (kind : Kind) (r : Row) → IsNoMark (counted_line kind r)
 row_no_mark Min r = record { supply = refl; other = λ q. refl; terminal = λ l. refl }
 row_no_mark _ r = record { supply = refl; other = λ q. refl; terminal = λ l. refl }
-
-pub rows_no_mark : (kind : Kind) (rows : List RowLine) → AllByRecursion IsNoMark (row_items (counted_line kind) rows)
-rows_no_mark kind [] = tt
-rows_no_mark kind (r ∷ rows) = (row_no_mark kind r.row, rows_no_mark kind rows)
-
--- what each of these items keeps is kept by all
-each_kept : (P : Line → Type 0) (Q : List Line → Type 0)
-    → ((before : List Line) (i : Line) → P i → Q before → Q (before ++ i ∷ [])) → (before items : List Line)
-    → AllByRecursion P items → Q before → Q (before ++ items)
-each_kept P Q step before [] all q = rw append-nil q
-each_kept P Q step before (i ∷ items) all q =
-    rw append_assoc at (each_kept P Q step (before ++ i ∷ []) items all.1 (step before i all.0 q))
 
 module _ {X : Type 0} (entry_in : Line → Option (ℤ × X)) (has : ℤ → Line → Bool) (before : List Line) (i : Line) where
   -- an item without an ID keeps what the map holds
@@ -96,18 +82,14 @@ same_terminal : (l : Letter) (before : List Line) (i : Line) → terminal_in l i
     → terminal_of l (before ++ i ∷ []) ≡ terminal_of l before
 same_terminal l before i none = rw (terminal_more l before (i ∷ []), none) (or_none (terminal_of l before))
 
-mark_kept : (h : Marks) (before : List Line) (i : Line) → IsNoMark i → MarksHold h before
+-- an item that is no `n` line keeps what the marks hold
+pub mark_kept : (h : Marks) (before : List Line) (i : Line) → IsNoMark i → MarksHold h before
     → MarksHold h (before ++ i ∷ [])
 mark_kept h before i none was = record {
   supplies = map_kept supply_in has_supply before i h.supplies none.supply none.other was.supplies;
   source_is = was.source_is ∙ sym (same_terminal S before i (none.terminal S));
   sink_is = was.sink_is ∙ sym (same_terminal T before i (none.terminal T));
 }
-
--- items that are no `n` lines keep what the marks hold
-pub marks_kept : (h : Marks) (before items : List Line) → AllByRecursion IsNoMark items → MarksHold h before
-    → MarksHold h (before ++ items)
-marks_kept h = each_kept IsNoMark (MarksHold h) (mark_kept h)
 
 -- `n` lines of a `max` text
 module _ (nodes id : ℤ) (h : Marks) (s : Option ℤ) (r : Result (Unit {0}) ItemFault) where
@@ -178,6 +160,7 @@ makes_none : (i : Line) → is_counted i ≡ false → (cost_arc_in i ≡ None) 
 makes_none (Item.MinArc _ _ _ _ _) h = cc
 makes_none _ h = first_of (cc, search rules)
 
+-- an item that is not counted keeps what the body holds
 pub body_kept : (b : AnyBody) (before : List Line) (i : Line) → is_counted i ≡ false → BodyHolds b before
     → BodyHolds b (before ++ i ∷ [])
 body_kept (Bodies.Min t) before i free h = table_kept costs cost_arc_in _ t before i (makes_none i free).0 h
@@ -188,12 +171,10 @@ body_kept (Bodies.P2p pairs) before i free h = rw (kept query_in before i (makes
 body_kept (Bodies.Co points) before i free h =
     map_kept point_in has_point before i points (makes_none i free).5 (makes_none i free).6 h
 
--- items that are not counted keep what the body holds
-pub holds_kept : (o : Option AnyBody) (kind : Kind) → option_map body_kind o ≡ Some kind → (before items : List Line)
-    → AllByRecursion (λ i. is_counted i ≡ false) items → HoldsBody o before → HoldsBody o (before ++ items)
-holds_kept None kind is before items free h = cc
-holds_kept (Some b) kind is before items free h =
-    each_kept (λ i. is_counted i ≡ false) (BodyHolds b) (body_kept b) before items free h
+pub holds_kept : (o : Option AnyBody) (kind : Kind) → option_map body_kind o ≡ Some kind → (before : List Line)
+    (i : Line) → is_counted i ≡ false → HoldsBody o before → HoldsBody o (before ++ i ∷ [])
+holds_kept None kind is before i free h = cc
+holds_kept (Some b) kind is before i free h = body_kept b before i free h
 
 -- a problem line is not counted, and no `n` line
 pub no_item : (i : Line) → IsSome (problem_in i) → (is_counted i ≡ false) × IsNoMark i

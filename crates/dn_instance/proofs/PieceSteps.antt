@@ -1,5 +1,6 @@
 -- Lemmas on the complete lines of a text when a piece is appended.
 use Rattle.std.proofs.Common.{◌≡◌, ℕ, ◌+◌, ◌-◌, List, [], ◌∷◌, ◌++◌, length, length-append, take, drop, take-append-drop, Bool, true, false, cond, not, ◌&&◌, refl, sym, ap, ◌∙◌, append-nil, append_assoc, arith, inl, inr, add-zero, take-add, take_all}
+use Rattle.std.proofs.lemmas.Grind.{flat_map-append}
 use Rattle.std.proofs.lemmas.Bool.{ltb-true, cases_Bool}
 use Rattle.std.proofs.lemmas.List.{length-drop}
 use Rattle.std.specs.List.{position_or_len, before_first, list_all}
@@ -117,3 +118,11 @@ step_on t p i n = rw (rest_is p i, append_assoc t (take i p), take-add i n p)
 
 pub whole_of : (t p : List ℕ) (j : ℕ) → t ++ p ≡ (t ++ take j p) ++ drop j p
 whole_of t p j = rw (append_assoc t (take j p), take-append-drop j p)
+
+-- the lines with their LFs, and one more
+pub closed_push : (ls : List (List ℕ)) (l : List ℕ) → closed_lines (ls ++ l ∷ []) ≡ closed_lines ls ++ (l ++ 10 ∷ [])
+closed_push ls l = rw (flat_map-append _ ls (l ∷ []), append-nil)
+
+pub inner_push : (ls : List (List ℕ)) (l : List ℕ) → AreInner ls → list_all is_inner l ≡ true → AreInner (ls ++ l ∷ [])
+inner_push [] l h i = (i, tt)
+inner_push (m ∷ ls) l h i = (h.0, inner_push ls l h.1 i)

@@ -1,9 +1,9 @@
 -- Lemmas on what a reader has read, and on a reader that takes rows at the beginning of a piece.
 use Rattle.dn_instance.specs.State.Helds.{Parsed}
-use Rattle.std.proofs.Common.{◌≡◌, ℕ, ◌+◌, ◌≤◌, List, [], ◌∷◌, ◌++◌, length, take, drop, Option, Some, None, Ok, Err, Result, MatchOption, inl, inr, refl, sym, ap, ◌∙◌, subst, arith, length-append, append-nil, append_assoc, pos, take_all, true}
+use Rattle.std.proofs.Common.{◌≡◌, ℕ, ◌+◌, ◌-◌, ◌≤◌, List, [], ◌∷◌, ◌++◌, length, take, drop, Option, Some, None, Ok, Err, Result, MatchOption, inl, inr, refl, sym, ap, ◌∙◌, subst, arith, length-append, append-nil, append_assoc, pos, take_all}
+use Rattle.std.proofs.Math.Nat.{add-sub_cancel}
 use Rattle.std.proofs.Math.Seq.{take-append_seam}
-use Rattle.std.proofs.lemmas.Grind.{flat_map-append}
-use Rattle.std.proofs.lemmas.List.{take-append-drop, take-append-le}
+use Rattle.std.proofs.lemmas.List.{take-append-le}
 use Rattle.dn_line.specs.declared.code.Code.{Code}
 use Rattle.dn_line.specs.Words.{said_words}
 use Rattle.dn_line.specs.Pieces.{lines, parts, is_line_feed}
@@ -16,21 +16,18 @@ use Rattle.dn_instance.specs.declared.refusal.Refusal.TheVariants.{Text, Memory}
 use Rattle.dn_instance.specs.State.ItemFaults.{AnswersFault}
 use Rattle.dn_instance.specs.Readers.{ended}
 use Rattle.dn_instance.specs.State.ReaderResults.{lines_taken, IsNext, IsRefused, Fed, Outcome, fed_answer}
-use Rattle.dn_instance.specs.State.ReaderStates.{StopsIn, ClosesLine, TakesAll, StopsAfter, IsReading, ReaderAt, Advances, HasOpen, open_of}
+use Rattle.dn_instance.specs.State.ReaderStates.{StopsIn, ClosesLine, TakesAll, TakesBlock, StopsAfter, IsReading, ReaderAt, Advances, HasOpen, open_of}
 use Rattle.dn_instance.specs.State.LineRefusals.{refused_at}
 use Rattle.dn_instance.specs.TextFaults.{line_fault}
 use Rattle.dn_instance.specs.Texts.{items_of, IsClean, IsFirstFaultAt}
-use Rattle.dn_instance.specs.State.TextsSoFar.{TextAt, AreInner, IsRefusedRow, ReadsRows, NeedsAfter, RefusesRow, closed_lines, fault_after}
+use Rattle.dn_instance.specs.State.TextsSoFar.{TextAt, AreInner, NeedsAfter, ReadsOn, closed_lines, fault_after}
 use Rattle.dn_instance.proofs.FirstFaults.{first_on}
 use Rattle.dn_instance.proofs.CleanItems.{split, clean_more}
-use Rattle.dn_instance.proofs.PieceSteps.{More, ended_more, lines_more, rest_of, step_on, whole_of, closed_more}
+use Rattle.dn_instance.proofs.PieceSteps.{More, ended_more, lines_more, rest_of, step_on, whole_of, closed_more, closed_push, inner_push}
 use Rattle.dn_instance.proofs.SizeLaws.{problem_sized}
 use Rattle.dn_instance.specs.State.Ends.{EndsWith}
 use Rattle.dn_instance.specs.declared.text_so_far.TextSoFar.{TextSoFar}
-use Rattle.std.specs.List.{list_all}
-use Rattle.dn_line.specs.State.LineStates.{is_inner}
 use Rattle.dn_line.proofs.PartsLaws.{Parts}
-use Rattle.dn_instance.specs.declared.text_so_far.RowsTaken.{RowsTaken}
 
 -- the fault of a line that follows lines without a fault is the first fault
 fault_first : (ls : List (List ℕ)) (l : List ℕ) (code : Code) → IsClean ls
@@ -206,20 +203,20 @@ held_whole x t held r e =
       record { nodes_are = all.nodes_are ∙ size.0; lines_are = all.lines_are ∙ ap pos size.1; shows = all.shows },
     )
 
--- rows have been read after a text without an open line
-pub with_rows : (r : Reader) (t piece : List ℕ) (front : RowsTaken) → HasOpen r.line (open_of t) → open_of t ≡ []
-    → ReadsRows r.text (ended t) piece front → IsReading r (t ++ take front.used piece)
-with_rows r t piece front line none f =
-    let all = ap (λ x. parts is_line_feed (t ++ x)) (sym f.whole) ∙ closed_more t f.more none f.inner in
+-- lines at the beginning of a piece have been read after a text without an open line
+pub with_lines : (r : Reader) (t piece end : List ℕ) → HasOpen r.line (open_of t) → open_of t ≡ []
+    → ReadsOn r.text (ended t) piece end → IsReading r (t ++ take (length piece - length end) piece)
+with_lines r t piece end line none f =
+    let all =
+    ap (λ x. parts is_line_feed (t ++ x)) (before_front (closed_lines f.more) end piece f.whole)
+    ∙ closed_more t f.more none f.inner in
     record {
       read = subst (TextAt r.text) (sym (ap (λ (p : Parts). p.0) all)) f.read;
       line = subst (HasOpen r.line) (none ∙ sym (ap (λ (p : Parts). p.1) all)) line;
     }
-
-inner_push : (more : List (List ℕ)) (l : List ℕ) → AreInner more → list_all is_inner l ≡ true
-    → AreInner (more ++ l ∷ [])
-inner_push [] l h i = (i, tt)
-inner_push (m ∷ more) l h i = (h.0, inner_push more l h.1 i)
+  where
+    before_front : (a b c : List ℕ) → a ++ b ≡ c → take (length c - length b) c ≡ a
+    before_front a b c e = rw (← e, length-append a b, add-sub_cancel (length a) (length b)) (take-append_seam a b)
 
 -- lines with their LFs that follow the complete lines are the first complete lines of what follows
 more_on : (t : List ℕ) (all : List (List ℕ)) (rest piece : List ℕ) → open_of t ≡ [] → AreInner all
@@ -228,26 +225,19 @@ more_on t all rest piece none inner e =
     rw (← e, ← append_assoc, ← ap (λ (p : Parts). p.0) (closed_more t all none inner))
     (ended_more (t ++ closed_lines all) rest)
 
--- a row of the piece is refused, and the reader keeps its refusal
-pub front_refused : (r : Reader) (t piece : List ℕ) (front : RowsTaken) (fault : ItemFault) (e : Refusal)
-    → open_of t ≡ []
-    → front.fault ≡ Some fault → ReadsRows r.text (ended t) piece front → r.refusal ≡ Some e
-    → ((ls : List (List ℕ)) → TextAt r.text ls → e ≡ refused_at (length ls + 1) fault)
-    → (n : ℕ) × Unit {0} × Advances r t (t ++ take n piece) (Err e)
-front_refused r t piece front fault e none is reads refusal said =
-    let ls = ended t ++ reads.more in
-    let s : IsRefusedRow ls (drop front.used piece) fault =
-    subst (RefusesRow ls (drop front.used piece)) is reads.stops in
-    let all = reads.more ++ s.line ∷ [] in
-    let whole : closed_lines all ++ s.rest ≡ take (length piece) piece =
-    rw (flat_map-append _ reads.more (s.line ∷ []), reads.whole, append-nil, append_assoc, append_assoc, s.whole)
-    (take-append-drop front.used piece ∙ sym (take_all (length piece) piece (omega arith))) in
-    let m : More (ls ++ s.line ∷ []) (ended (t ++ take (length piece) piece)) =
-    rw append_assoc
-    (more_on t all s.rest _ none (inner_push reads.more s.line reads.inner s.inner) whole) in
-    let takes = refuses_next r ls s.line fault e reads.read refusal (said ls reads.read) s.answer s.needs in (
+-- a line of a block at the beginning of the piece is refused
+pub block_refused : (r : Reader) (t piece end : List ℕ) (e : Refusal) → open_of t ≡ []
+    → TakesBlock r (ended t) piece end (Err e) → (n : ℕ) × Unit {0} × Advances r t (t ++ take n piece) (Err e)
+block_refused r t piece end e none (l, rest, on, inner, closes) =
+    let ls = ended t ++ on.more in
+    let all = on.more ++ l ∷ [] in
+    let whole : closed_lines all ++ rest ≡ take (length piece) piece =
+    rw (closed_push on.more l, append_assoc, append_assoc, on.whole)
+    (sym (take_all (length piece) piece (omega arith))) in
+    let m : More (ls ++ l ∷ []) (ended (t ++ take (length piece) piece)) =
+    rw append_assoc (more_on t all rest _ none (inner_push on.more l on.inner inner) whole) in (
       length piece,
       tt,
-      refused_after r (length ls) _ _ _ e (omega (arith, length-append (ended t) reads.more)) m
-          (takes.0, takes.1, takes.2, omega (arith, takes.3)),
+      refused_after r (length ls) _ _ _ e (omega (arith, length-append (ended t) on.more)) m
+          (closes.0, closes.1, closes.2, omega (arith, closes.3)),
     )

@@ -1,15 +1,13 @@
--- Lemmas on the lines of rows that are taken one after another.
-use Rattle.std.proofs.Common.{◌≡◌, ◌<◌, ◌≤◌, ◌+◌, ◌-◌, ◌^◌, ℕ, ℤ, zero, suc, List, [], ◌∷◌, ◌++◌, length, map, take, drop, false, Option, Some, None, Ok, Err, refl, sym, ap, ◌∙◌, arith, append-nil, append_assoc, length-append, inl, inr, length-take-le}
-use Rattle.std.proofs.Math.Nat.{add-sub_cancel}
+-- Lemmas on the lines of the rows of a block.
+use Rattle.std.proofs.Common.{◌≡◌, ◌<◌, ◌+◌, ℕ, suc, List, [], ◌∷◌, ◌++◌, length, map, drop, get_or, false, Some, None, Ok, Err, refl, sym, ap, ◌∙◌, subst, arith, append_assoc, inl, inr}
 use Rattle.std.proofs.lemmas.Bool.{cases_Bool, cases_eq, ne_eqb}
-use Rattle.std.specs.List.{AllByRecursion}
-use Rattle.std.proofs.Math.Seq.{drop-append_seam, take-append_seam}
-use Rattle.dn_line.specs.Faults.{first_fault}
+use Rattle.std.proofs.lemmas.List.{drop_more}
 use Rattle.dn_line.specs.LineTable.{fields_of}
 use Rattle.dn_line.specs.Reading.{item}
 use Rattle.dn_line.specs.State.Numbers.{number_word}
 use Rattle.dn_line.specs.State.LineReads.{head_of, head_read}
 use Rattle.dn_line.specs.State.RowBlocks.{IsRowLine, ReadUpTo, last_left}
+use Rattle.dn_line.specs.State.RowItems.{item_of_row}
 use Rattle.dn_line.specs.State.Rows.{FieldsFit, letter_byte, row_numbers}
 use Rattle.dn_line.specs.Words.{is_skip, said_words}
 use Rattle.dn_line.specs.declared.kind.Kind.{Kind}
@@ -24,21 +22,24 @@ use Rattle.dn_line.specs.declared.word.Keyword.{Keyword}
 use Rattle.dn_line.specs.declared.word.Keyword.TheVariants as Key
 use Rattle.dn_line.specs.declared.word.Word.{Word}
 use Rattle.dn_line.proofs.RowLaws.{ReadsAs, row_item}
-use Rattle.dn_instance.specs.Items.{Problem, kind_known, problem_of}
-use Rattle.dn_instance.specs.State.Bodies.{Awaits, StopsAtRow, TookRows}
-use Rattle.dn_instance.specs.declared.body.Taken.{Taken}
+use Rattle.dn_instance.specs.Items.{kind_known}
+use Rattle.dn_instance.specs.State.RowHeads.{IsRowHead, counted_head, counted_line, run_head}
+use Rattle.dn_instance.specs.State.ItemFaults.{AnswersFault}
+use Rattle.dn_instance.specs.State.LineRefusals.{refused_at}
+use Rattle.dn_instance.specs.State.ReaderStates.{TakesBlock}
+use Rattle.dn_instance.specs.State.TextsSoFar.{AfterRow, ComeInTime, IsLineOf, LeftOf, NeedsAfter, TextAt, fault_after, text_kind}
+use Rattle.dn_instance.specs.Texts.{items_of}
+use Rattle.dn_instance.specs.declared.reader.Reader.{Reader}
 use Rattle.dn_instance.specs.declared.refusal.ItemFault.{ItemFault}
-use Rattle.dn_instance.specs.State.RowRuns.{AreFaultless, AreInTime, HasSigns, IsInTime, IsRowHead, counted_head, counted_line, row_items, row_line, run_head, supply_line}
-use Rattle.dn_instance.specs.State.TextsSoFar.{AreInner, HasRead, ReadsRows, RefusesRow, TextAt, closed_lines, next_read}
-use Rattle.dn_instance.specs.TextFaults.{item_tests}
-use Rattle.dn_instance.specs.Texts.{IsClean, items_of, with_next}
-use Rattle.dn_instance.specs.declared.text_so_far.RowsTaken.{RowsTaken}
+use Rattle.dn_instance.specs.declared.refusal.ItemFault.TheVariants as Faults
+use Rattle.dn_instance.specs.declared.refusal.Refusal.{Refusal}
 use Rattle.dn_instance.specs.declared.text_so_far.TextSoFar.{TextSoFar}
-use Rattle.dn_instance.proofs.CleanItems.{items_push, clean_more, fault_is_next, in_time}
-use Rattle.dn_instance.proofs.FirstFaults.{fault_after}
-use Rattle.dn_instance.proofs.FollowLaws.{adds_it, fields_signs, follows_as, head_agrees, head_skips, same_fault, then_fields}
-use Rattle.dn_instance.proofs.ItemSteps.{problem_all, with_lines}
-use Rattle.dn_instance.proofs.OrderLaws.{in_time_split}
+use Rattle.dn_instance.proofs.CleanItems.{items_push}
+use Rattle.dn_instance.proofs.FollowLaws.{head_agrees, head_skips, next_item, then_fields}
+use Rattle.dn_instance.proofs.ItemSteps.{kind_agrees}
+use Rattle.dn_instance.proofs.PieceSteps.{closed_push, inner_push}
+use Rattle.dn_instance.proofs.ReaderLaws.{refuses_next}
+use Rattle.dn_instance.proofs.RowTakes.{come_after, row_in_time}
 
 -- the letter is that of lines with this head, and the numbers of a row make the item
 abbrev SpellsItem : Kind → Head → Keyword → Line → Row → List Field → Type 0
@@ -72,7 +73,7 @@ pub record ReadsRow (kind : Kind) (head : Head) (ws : List Word) (i : Line) : Ty
 abbrev pub SpellsRows : Kind → ℕ → Head → Type 0
 SpellsRows kind byte head =
     (bytes rest : List ℕ) (r : RowLine) → (l : IsRowLine kind byte bytes r rest)
-    → ReadsRow kind head (said_words l.begins.line) (row_line kind head r.row)
+    → ReadsRow kind head (said_words l.begins.line) (item_of_row head (Some kind) r.row)
 
 made : (kind : Kind) (byte : ℕ) (head : Head) (bytes rest : List ℕ) (r : RowLine) (i : Line)
     → (l : IsRowLine kind byte bytes r rest) → SpellsItem kind head l.in_table.key i r.row l.fields
@@ -91,7 +92,7 @@ counted_rows kind byte other bytes rest r l =
 
 supply_rows : (byte : ℕ) → byte ≡ 110 → SpellsRows Min byte Heads.Node
 supply_rows byte e bytes rest r l =
-    made Min byte Heads.Node bytes rest r (supply_line r.row) l
+    made Min byte Heads.Node bytes rest r (item_of_row Heads.Node (Some Min) r.row) l
     (of_n l.in_table.key (only_n l.in_table.key (l.in_table.byte_is ∙ ap Some e)) l.fields l.in_table.row_is r.row)
   where
     byte_is : {a b : ℕ} → Some a ≡ Some b → a ≡ b
@@ -106,7 +107,7 @@ supply_rows byte e bytes rest r l =
     only_n _ h = cc
 
     of_n : (key : Keyword) → key ≡ Key.N → (fields : List Field) → fields_of Min key ≡ Some fields → (r : Row)
-        → SpellsItem Min Heads.Node key (supply_line r) r fields
+        → SpellsItem Min Heads.Node key (item_of_row Heads.Node (Some Min) r) r fields
     of_n key n fields h r = rw (n, ← field_list (rw n at h)) (refl, refl)
 
 -- the lines of rows that begin with a byte have its head
@@ -127,6 +128,12 @@ run_head_is Min byte = elim (cases_eq byte 110) [
 run_head_is Max byte = inr refl
 run_head_is kind byte = inr refl
 
+-- the number of the bytes after the lines of some rows
+pub left_is : (kind : Kind) (byte : ℕ) (bytes end : List ℕ) (rows : List RowLine) → ReadUpTo kind byte bytes rows end
+    → last_left (length bytes) rows ≡ length end
+left_is kind byte bytes end [] u = ap length u
+left_is kind byte bytes end (r ∷ rows) u = rw u.1.left (left_is kind byte u.0 end rows u.2)
+
 -- lines of rows are not skipped
 not_skip : (kind : Kind) (head : Head) → IsRowHead kind head → head ≡ Heads.Skip → ⊥
 not_skip kind head is skip = elim is [ inl e ↦ cc | inr e ↦ none kind (sym skip ∙ e) ]
@@ -135,179 +142,112 @@ not_skip kind head is skip = elim is [ inl e ↦ cc | inr e ↦ none kind (sym s
     none Min e = cc
     none _ e = cc
 
-module _ (kind : Kind) (head : Head) (row : IsRowHead kind head) (ws : List Word) (i : Line)
-    (r : ReadsRow kind head ws i) where
-  named : head_read (Some kind) ws ≡ Ok head
-  named = r.reads.head ∙ ap Ok r.is
-
-  counts : is_skip ws ≡ false
-  counts = elim (cases_Bool (is_skip ws)) [
-    | inl e ↦ absurd (not_skip kind head row (head_skips (Some kind) ws head e named))
-    | inr e ↦ e
-  ]
-
-  -- LOW and CAP of an item that the line of a row spells are at least 0
-  row_signs : HasSigns i
-  row_signs =
-      fields_signs (Some kind) ws i counts (head_agrees (Some kind) ws head counts named).0 r.reads.fields
-
-  reads_item : (before : List Line) (p : Problem) → problem_of before ≡ Some p → p.kind ≡ kind → IsInTime head before
-      → next_read before ws ≡ Ok i
-  reads_item before p problem is t =
-      let known : kind_known before ≡ Some kind = rw (problem, is) in
-      let own = ap (λ k. head_read k ws) known ∙ named in
-      let listed = head_agrees (kind_known before) ws head counts own in
-      sym (then_fields before ws head own (rw counts (t ws listed.0 listed.1))) ∙ rw known r.reads.fields
-
--- the bytes begin with the lines of these rows, and these lines have no fault after the earlier lines
-pub record RunOn (line : Row → Line) (bytes rest : List ℕ) (ls : List (List ℕ)) (rows : List RowLine) : Type 0 where
-  pub more : List (List ℕ)
-  pub whole : closed_lines more ++ rest ≡ bytes
-  pub inner : AreInner more
-  pub clean : IsClean (ls ++ more)
-  pub items : items_of (ls ++ more) ≡ items_of ls ++ row_items line rows
-  pub number : length (ls ++ more) ≡ length ls + length rows
-
--- the bytes before the rest, and the rest
-pub before_front : (a b c : List ℕ) → a ++ b ≡ c → take (length c - length b) c ≡ a
-before_front a b c e = rw (← e, length-append a b, add-sub_cancel (length a) (length b)) (take-append_seam a b)
-
-pub after_front : (a b c : List ℕ) → a ++ b ≡ c → drop (length c - length b) c ≡ b
-after_front a b c e = rw (← e, length-append a b, add-sub_cancel (length a) (length b)) (drop-append_seam a b)
-
-module _ (kind : Kind) (byte : ℕ) (head : Head) (row : IsRowHead kind head) (rows_spell : SpellsRows kind byte head)
-  where
-    abbrev line : Row → Line
-    line = row_line kind head
-
-    pub run_signs : (rows : List RowLine) (bytes rest : List ℕ) → ReadUpTo kind byte bytes rows rest
-        → AllByRecursion HasSigns (row_items line rows)
-    run_signs [] bytes rest u = tt
-    run_signs (r ∷ rows) bytes rest u = (
-      row_signs kind head row _ (line r.row) (rows_spell bytes u.0 r u.1),
-      run_signs rows u.0 rest u.2,
-    )
-
-    -- the line of a row has the faults of its item after the earlier lines, and adds the item
-    record OneOn (ls : List (List ℕ)) (l : List ℕ) (i : Line) : Type 0 where
-      faults : fault_after ls l ≡ first_fault (item_tests (items_of ls) (Some i))
-      adds : with_next (items_of ls) (said_words l) ≡ items_of ls ++ i ∷ []
-
-    one_on : (ls : List (List ℕ)) (l : List ℕ) (i : Line) (p : Problem) → problem_of (items_of ls) ≡ Some p
-        → p.kind ≡ kind → ReadsRow kind head (said_words l) i → IsInTime head (items_of ls) → length ls < 2 ^ 63 - 2
-        → OneOn ls l i
-    one_on ls l i p problem is r t few =
-        let before = items_of ls in
-        let ws = said_words l in
-        let counts = counts kind head row ws i r in
-        let f = follows_as before ws counts i (reads_item kind head row ws i r before p problem is t) in
-        record {
-          faults =
-              fault_is_next (length ls + 1) before ws (in_time (length ls) (length ls) refl few)
-              ∙ same_fault before ws i counts f;
-          adds = adds_it before ws i counts f;
-        }
-
-    pub run_on : (rows : List RowLine) (bytes rest : List ℕ) (ls : List (List ℕ)) (p : Problem)
-        → ReadUpTo kind byte bytes rows rest → IsClean ls → problem_of (items_of ls) ≡ Some p → p.kind ≡ kind
-        → AreFaultless (items_of ls) (row_items line rows) → AreInTime head (items_of ls) (row_items line rows)
-        → length ls + length rows < 2 ^ 63 - 1 → RunOn line bytes rest ls rows
-    run_on [] bytes rest ls p u clean problem is f t few = record {
-      more = [];
-      whole = sym u;
-      inner = tt;
-      clean = rw append-nil clean;
-      items = rw (append-nil ls, append-nil (items_of ls));
-      number = rw append-nil (omega arith);
+-- the line of a row that comes in time reads as its item
+line_of_row : (t : TextSoFar) (kind : Kind) (head : Head) (row : Row) (m : ℕ) (ls : List (List ℕ)) (l : List ℕ)
+    → TextAt t ls → text_kind t ≡ Some kind → IsRowHead kind head → ComeInTime t head (suc m)
+    → ReadsRow kind head (said_words l) (item_of_row head (Some kind) row) → IsLineOf t head row ls l
+line_of_row t kind head row m ls l at is row_is times r =
+    let ws = said_words l in
+    let named : head_read (Some kind) ws ≡ Ok head = r.reads.head ∙ ap Ok r.is in
+    let counts : is_skip ws ≡ false = elim (cases_Bool (is_skip ws)) [
+      | inl e ↦ absurd (not_skip kind head row_is (head_skips (Some kind) ws head e named))
+      | inr e ↦ e
+    ] in
+    let known : kind_known (items_of ls) ≡ Some kind = kind_agrees t (items_of ls) at.items_are ∙ is in
+    let own = ap (λ k. head_read k ws) known ∙ named in
+    let listed = head_agrees (kind_known (items_of ls)) ws head counts own in
+    record {
+      counts = counts;
+      reads =
+          sym (then_fields (items_of ls) ws head own
+          (rw counts (row_in_time t (items_of ls) kind head m at.items_are is row_is times ws listed.1)))
+          ∙ rw (known, is) r.reads.fields;
     }
-    run_on (r ∷ rows) bytes rest ls p u clean problem is f t few =
-        let b = u.1.begins in
-        let l = b.line in
-        let i = line r.row in
-        let one = one_on ls l i p problem is (rows_spell bytes u.0 r u.1) t.0 (omega arith) in
-        let items = items_push ls l ∙ one.adds in
-        let long = length-append ls (l ∷ []) in
-        let more =
-        run_on rows u.0 rest (ls ++ l ∷ []) p u.2 (clean_more ls l clean (one.faults ∙ f.0))
-        (ap problem_of items ∙ problem_all (items_of ls) (i ∷ []) p problem) is (rw items f.1) (rw items t.1)
-        (omega arith) in
-        let joined : ls ++ l ∷ more.more ≡ (ls ++ l ∷ []) ++ more.more = sym (append_assoc ls (l ∷ []) more.more) in
-        record {
-          more = l ∷ more.more;
-          whole =
-              rw (append_assoc (l ++ 10 ∷ []) (closed_lines more.more) rest, append_assoc l, more.whole) b.whole;
-          inner = (b.inner, more.inner);
-          clean = rw joined more.clean;
-          items = rw (joined, more.items, items) (append_assoc (items_of ls) (i ∷ []) (row_items line rows));
-          number = ap length joined ∙ more.number ∙ (omega arith);
-        }
 
-    -- the line of the row at which the rows stop has the fault
-    refuses : (left : List RowLine) (bytes rest : List ℕ) (ls : List (List ℕ)) (p : Problem) (fault : Option ItemFault)
-        → ReadUpTo kind byte bytes left rest → problem_of (items_of ls) ≡ Some p → p.kind ≡ kind
-        → AreInTime head (items_of ls) (row_items line left) → StopsAtRow line (items_of ls) left fault
-        → length ls < 2 ^ 63 - 2
-        → RefusesRow ls bytes fault
-    refuses left bytes rest ls p None u problem is t s few = tt
-    refuses [] bytes rest ls p (Some fault) u problem is t s few = absurd s
-    refuses (r ∷ left) bytes rest ls p (Some fault) u problem is t s few =
-        let b = u.1.begins in
-        let one = one_on ls b.line (line r.row) p problem is (rows_spell bytes u.0 r u.1) t.0 few in
-        record {
-          line = b.line;
-          rest = u.0;
-          whole = b.whole;
-          inner = b.inner;
-          answer = rw one.faults s.fault;
-          needs = λ e. record { item = line r.row; spelled = one.adds; needs = s.memory (ap Err e) };
-        }
+-- the next line after the lines that have been read
+module _ (t : TextSoFar) (ls : List (List ℕ)) (bytes end : List ℕ) (head : Head) (r : RowLine) (rows : List RowLine)
+    (left : LeftOf t ls bytes end head (r ∷ rows)) where
+  abbrev next_line : List ℕ
+  next_line = left.rows_are.1.begins.line
 
-    -- the lines of the rows that were taken have been read, and the next line has the fault
-    pub front_read : (u : TextSoFar) (n : ℕ) (nodes : ℤ) (rows : List RowLine) (t : Taken) (bytes rest : List ℕ)
-        (ls : List (List ℕ)) (front : RowsTaken) → ReadUpTo kind byte bytes rows rest → IsClean ls
-        → Awaits kind nodes (items_of ls) (row_items line rows) → AreInTime head (items_of ls) (row_items line rows)
-        → TookRows line (items_of ls) (HasRead u) rows t → t.rows ≤ length rows → length ls + length rows < 2 ^ 63 - 2
-        → n ≡ length ls + t.rows → front.used ≡ length bytes - last_left (length bytes) (take t.rows rows)
-        → front.fault ≡ t.fault → ReadsRows (record u { closed = n }) ls bytes front
-    front_read u n nodes rows t bytes rest ls front r clean a early took within few number used fault =
-        let taken = take t.rows rows in
-        let split = split_at rows t.rows bytes rest r in
-        let times = in_time_split head line rows t.rows (items_of ls) early in
-        let long : length taken ≡ t.rows = length-take-le t.rows rows within in
-        let on =
-        run_on taken bytes split.0 ls a.problem split.1 clean a.problem_is a.kind_is took.joins.faultless times.0
-        (omega arith) in
-        let left : front.used ≡ length bytes - length split.0 = rw split.2 used in
-        let lines : length (ls ++ on.more) ≡ length ls + t.rows = omega (arith, on.number) in
-        record {
-          more = on.more;
-          whole = rw left (sym (before_front _ split.0 bytes on.whole));
-          inner = on.inner;
-          read = record {
-            clean = on.clean;
-            few = omega arith;
-            number_is = number ∙ sym lines;
-            items_are = rw on.items (with_lines u n _ took.joins.holds);
-          };
-          stops =
-              rw (fault, left, after_front _ split.0 bytes on.whole)
-              (refuses (drop t.rows rows) split.0 rest (ls ++ on.more) a.problem t.fault split.3
-              (ap problem_of on.items ∙ problem_all (items_of ls) (row_items line taken) a.problem a.problem_is)
-              a.kind_is (rw on.items times.1) (rw on.items took.stops) (omega arith));
-        }
-      where
-        -- the first m of these lines, and those after them
-        split_at : (rows : List RowLine) (m : ℕ) (bytes rest : List ℕ) → ReadUpTo kind byte bytes rows rest
-            → (next : List ℕ) × ReadUpTo kind byte bytes (take m rows) next
-            × (length next ≡ last_left (length bytes) (take m rows)) × ReadUpTo kind byte next (drop m rows) rest
-        split_at [] zero bytes rest u = (bytes, refl, refl, u)
-        split_at [] (suc m) bytes rest u = (bytes, refl, refl, u)
-        split_at (r ∷ rows) zero bytes rest u = (bytes, refl, refl, u)
-        split_at (r ∷ rows) (suc m) bytes rest u =
-            let q = split_at rows m u.0 rest u.2 in
-            (q.0, (u.0, u.1, q.1), rw u.1.left q.2, q.3)
+  abbrev lines_read : List (List ℕ)
+  lines_read = ls ++ left.on.more
 
--- no line has been taken
-pub none_read : (t : TextSoFar) (ls : List (List ℕ)) (bytes : List ℕ) → TextAt t ls
-    → ReadsRows t ls bytes (record { used = 0; fault = None })
-none_read t ls bytes at = record { more = []; whole = refl; inner = tt; read = rw append-nil at; stops = tt }
+  row_is : IsRowHead left.kind head
+  row_is = rw left.head_is (run_head_is left.kind left.byte)
+
+  times : ComeInTime t head (suc (length rows))
+  times = left.in_time (omega arith)
+
+  line_is : IsLineOf t head r.row lines_read next_line
+  line_is =
+      line_of_row t left.kind head r.row (length rows) lines_read next_line left.on.read left.kind_is row_is times
+      (subst (λ h. ReadsRow left.kind h (said_words next_line) (item_of_row h (Some left.kind) r.row))
+      (sym left.head_is) (rows_spell left.kind left.byte left.rest left.rows_are.0 r left.rows_are.1))
+
+  -- once it has been read, the lines of the other rows are left
+  next_left : (u : TextSoFar) → TextAt u (lines_read ++ next_line ∷ []) → LeftOf u ls bytes end head rows
+  next_left u at =
+      let b = left.rows_are.1.begins in
+      let items = items_of lines_read in
+      let i = item_of_row head (Some left.kind) r.row in
+      let adds : items_of (lines_read ++ next_line ∷ []) ≡ items ++ i ∷ [] =
+      items_push lines_read next_line
+      ∙ (next_item items (said_words next_line) i line_is.counts (line_is.reads
+      ∙ ap (λ k. Ok (item_of_row head k r.row)) left.kind_is)).adds in
+      let after =
+      come_after t items left.kind head (length rows) left.on.read.items_are left.kind_is row_is times u r.row
+      (rw adds at at.items_are) in
+      record {
+        kind = left.kind;
+        kind_is = after.0;
+        byte = left.byte;
+        head_is = left.head_is;
+        rest = left.rows_are.0;
+        on = record {
+          more = left.on.more ++ next_line ∷ [];
+          whole = rw (closed_push left.on.more next_line, append_assoc, append_assoc, b.whole) left.on.whole;
+          inner = inner_push left.on.more next_line left.on.inner b.inner;
+          read = rw append_assoc at at;
+        };
+        rows_are = left.rows_are.2;
+        in_time = λ some. after.1;
+      }
+
+-- the rows of a block from a position on
+module _ (t : TextSoFar) (ls : List (List ℕ)) (bytes end : List ℕ) (head : Head) (rows : List RowLine) (i : ℕ)
+    (d : RowLine) (here : i < length rows) (left : LeftOf t ls bytes end head (drop i rows)) where
+  now : LeftOf t ls bytes end head (get_or rows i d ∷ drop (i + 1) rows)
+  now = subst (LeftOf t ls bytes end head) (drop_more rows i d here) left
+
+  is : IsLineOf t head (get_or rows i d).row (ls ++ now.on.more) now.rows_are.1.begins.line
+  is = line_is t ls bytes end head (get_or rows i d) (drop (i + 1) rows) now
+
+  -- the line of the row at the position has been read
+  pub read_next : (u : TextSoFar) → AfterRow t head (get_or rows i d).row (λ ms l. TextAt u (ms ++ l ∷ []))
+      → LeftOf u ls bytes end head (drop (i + 1) rows)
+  read_next u stands =
+      next_left t ls bytes end head (get_or rows i d) (drop (i + 1) rows) now u (stands _ _ now.on.read is)
+
+  -- the line of the row at the position is refused
+  pub refuse_next : (r : Reader) (fault : ItemFault) (e : Refusal)
+      → AfterRow t head (get_or rows i d).row (λ ms l. AnswersFault (Err fault) (fault_after ms l))
+      → AfterRow t head (get_or rows i d).row (λ ms l. fault ≡ Faults.Memory → NeedsAfter ms l)
+      → ((ms : List (List ℕ)) → TextAt t ms → TextAt r.text ms) → r.refusal ≡ Some e
+      → ((ms : List (List ℕ)) → TextAt t ms → e ≡ refused_at (length ms + 1) fault)
+      → TakesBlock r ls bytes end (Err e)
+  refuse_next r fault e answer item same refusal said =
+      let more = now.on.more in
+      let read = now.on.read in (
+        now.rows_are.1.begins.line,
+        now.rows_are.0,
+        record {
+          more = more;
+          whole = rw now.rows_are.1.begins.whole now.on.whole;
+          inner = now.on.inner;
+          read = same _ read;
+        },
+        now.rows_are.1.begins.inner,
+        refuses_next r (ls ++ more) now.rows_are.1.begins.line fault e (same _ read) refusal (said _ read)
+            (answer _ _ read is) (item _ _ read is),
+      )

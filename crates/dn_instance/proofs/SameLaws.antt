@@ -2,17 +2,17 @@
 -- represents one problem.
 use Rattle.std.proofs.Common.{◌≡◌, ℤ, List, ◌∷◌, Bool, true, false, cond, refl, sym, ◌∙◌}
 use Rattle.std.specs.List.Sorted.{IsPermutation}
-use Rattle.dn_arc.specs.State.Equivalences.{IsMeaning}
-use Rattle.dn_arc.specs.Kinds.{ArcKind, lengths, capacities, costs}
-use Rattle.dn_arc.proofs.OrdersLaws.{any_order}
-use Rattle.dn_arc.proofs.LengthsLaws.{length_meaning}
-use Rattle.dn_arc.proofs.TotalsLaws.{total_meaning}
-use Rattle.dn_arc.proofs.CurvesLaws.{curve_meaning}
-use Rattle.dn_arc.specs.Pairs.{bundle, same_pair}
-use Rattle.dn_arc.specs.State.SingleArcs.{length_listed, cap_listed}
-use Rattle.dn_arc.specs.State.CurveListed.{listed}
-use Rattle.dn_arc.specs.declared.arc.Form.TheVariants.{One}
-use Rattle.dn_arc.specs.State.Curves.{CurveNumbers}
+use Rattle.dn_arc_theory.specs.State.Equivalences.{IsMeaning}
+use Rattle.dn_arc_theory.specs.Kinds.{ArcKind, lengths, capacities, costs}
+use Rattle.dn_arc_theory.proofs.OrdersLaws.{any_order}
+use Rattle.dn_arc_theory.proofs.LengthsLaws.{length_meaning}
+use Rattle.dn_arc_theory.proofs.TotalsLaws.{total_meaning}
+use Rattle.dn_arc_theory.proofs.CurvesLaws.{curve_meaning}
+use Rattle.dn_arc_theory.specs.Pairs.{bundle, same_pair}
+use Rattle.dn_arc_theory.specs.State.SingleArcs.{length_listed, cap_listed}
+use Rattle.dn_arc_theory.specs.State.CurveListed.{listed}
+use Rattle.dn_arc_theory.specs.declared.arc.Form.TheVariants.{One}
+use Rattle.dn_arc_theory.specs.State.Curves.{CurveNumbers}
 use Rattle.dn_bundle.specs.declared.least.Least.{Least}
 use Rattle.dn_bundle.specs.declared.total.Total.{Total}
 use Rattle.dn_instance.specs.State.Helds.{Contents, Parsed, IsHeld, Shows, OfMin, OfMax, OfSp, OfSs, OfP2p, OfCo}

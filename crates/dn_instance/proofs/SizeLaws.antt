@@ -7,7 +7,7 @@ use Rattle.dn_line.specs.declared.kind.Kind.TheVariants as Kinds
 use Rattle.dn_line.specs.declared.line.Line.{Line}
 use Rattle.dn_line.specs.declared.line.Line.TheVariants as Item
 use Rattle.dn_line.specs.State.Spelling.{slots_of, kind_before}
-use Rattle.dn_arc.specs.Entries.{cap_entries, cost_entries, length_entries}
+use Rattle.dn_arc_theory.specs.Entries.{cap_entries, cost_entries, length_entries}
 use Rattle.dn_instance.specs.Instances.{Instance, nodes_of, size_of}
 use Rattle.dn_instance.specs.EntryCount.{entries_as, entries_by, entries_so_far}
 use Rattle.dn_table.proofs.EntryLaws.{graph_few, costs_few, capacities_few, lengths_few}

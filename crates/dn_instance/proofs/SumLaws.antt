@@ -1,11 +1,11 @@
 -- Lemmas on the CAPs of an ordered pair with one more arc.
 use Rattle.std.proofs.Common.{◌≡◌, ◌-◌, ◌^◌, ℤ, pos, ◌+ℤ◌, List, [], ◌∷◌, ◌++◌, Bool, int_lt, sym, ap, arith}
 use Rattle.std.proofs.lemmas.Int.{ints}
-use Rattle.dn_arc.specs.Kinds.{ArcKind, capacities, costs}
-use Rattle.dn_arc.specs.Capacities.{total_cap}
-use Rattle.dn_arc.specs.declared.arc.CapArc.{CapArc}
-use Rattle.dn_arc.specs.declared.arc.CostArc.{CostArc}
-use Rattle.dn_arc.specs.Pairs.{bundle}
+use Rattle.dn_arc_theory.specs.Kinds.{ArcKind, capacities, costs}
+use Rattle.dn_arc_theory.specs.Capacities.{total_cap}
+use Rattle.dn_arc_theory.specs.declared.arc.CapArc.{CapArc}
+use Rattle.dn_arc_theory.specs.declared.arc.CostArc.{CostArc}
+use Rattle.dn_arc_theory.specs.Pairs.{bundle}
 
 -- the capacities of this arc and of the arcs of its ordered pair sum to more than 2^63 - 1, for any kind of arcs
 abbrev pub passes : {Arc : Type 0} → ArcKind Arc → List ((ℤ × ℤ) × Arc) → (ℤ × ℤ) × Arc → Bool

@@ -1,6 +1,6 @@
 -- Lemmas that what a text reads as is valid.
 use Rattle.std.proofs.Common.{◌≡◌, ℕ, ℤ, pos, ◌≤ℤ◌, List, [], ◌∷◌, ◌++◌, Bool, true, false, cond, not, ◌||◌, map, Option, Some, None, is_some, option_and_then, Ok, Err, int_lt, refl, sym, ap, ◌∙◌, append-nil, arith, filter_map, inl, inr, int_eq}
-use Rattle.dn_arc.specs.declared.arc.CostArc.{CostArc}
+use Rattle.dn_arc_theory.specs.declared.arc.CostArc.{CostArc}
 use Rattle.std.proofs.lemmas.Bool.{cases_Bool, and_parts, not-false}
 use Rattle.std.proofs.lemmas.Cmp.{int_eq_equiv}
 use Rattle.std.proofs.lemmas.Int.{ints}
@@ -17,9 +17,9 @@ use Rattle.dn_line.specs.declared.line.Line.TheVariants as Item
 use Rattle.dn_line.specs.Pieces.{lines}
 use Rattle.dn_line.specs.Words.{words, said, said_words}
 use Rattle.dn_line.specs.State.Spelling.{Slot, Is, Number, Natural, slots_of, kind_before, FitSlots, Spells}
-use Rattle.dn_arc.specs.Kinds.{ArcKind, costs, capacities, lengths}
-use Rattle.dn_arc.specs.declared.arc.CapArc.{CapArc}
-use Rattle.dn_arc.specs.Pairs.{bundle, same_pair}
+use Rattle.dn_arc_theory.specs.Kinds.{ArcKind, costs, capacities, lengths}
+use Rattle.dn_arc_theory.specs.declared.arc.CapArc.{CapArc}
+use Rattle.dn_arc_theory.specs.Pairs.{bundle, same_pair}
 use Rattle.dn_instance.specs.Instances.{Graph, Instance, MaxFlow}
 use Rattle.dn_instance.specs.Validity.{Fits, IsNode, IsId, IsPlaced, IsValidGraph, IsSupply, IsPoint, AreSupplies, AreTerminals, ArePoints, IsValid}
 use Rattle.dn_instance.specs.Items.{Problem, problem_in, problem_of, kind_known, arcs_of, length_arc_in, cap_arc_in, cost_arc_in, by_key, supply_in, supplies_of, terminal_in, terminal_of, source_in, query_in, point_in, graph_of, max_flow, instance_as}
@@ -29,12 +29,12 @@ use Rattle.dn_line.specs.LineTable.{is_companion}
 use Rattle.dn_instance.specs.Texts.{items_of, IsClean, Reads}
 use Rattle.std.specs.Ordering.{int_cmp}
 use Rattle.std.proofs.lemmas.Cmp.{int_cmp_total}
-use Rattle.dn_arc.proofs.PairLaws.{pair_is, bundle_push}
+use Rattle.dn_arc_theory.proofs.PairLaws.{pair_is, bundle_push}
 use Rattle.dn_instance.proofs.SumLaws.{passes, total_passes, cost_passes}
 use Rattle.dn_instance.proofs.CleanItems.{IsNext, by_items, problem_push, or_none, or_assoc}
 use Rattle.dn_instance.proofs.MapLaws.{each_put, rising_put, by_key_push, no_keys}
 use Rattle.dn_table.proofs.GrownLaws.{none_is}
-use Rattle.dn_kind.proofs.BundleLaws.{all_end}
+use Rattle.dn_bundle_trait.proofs.BundleLaws.{all_end}
 
 -- the number of a slot fits 64 signed bits
 abbrev SlotFits : Slot → Type 0

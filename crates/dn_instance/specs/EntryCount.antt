@@ -3,7 +3,7 @@ use Rattle.std.specs.Prelude.{ℕ, List, length, filter_map, Option, Some, None}
 use Rattle.dn_line.specs.declared.kind.Kind.{Kind}
 use Rattle.dn_line.specs.declared.kind.Kind.TheVariants as Kinds
 use Rattle.dn_line.specs.declared.line.Line.{Line}
-use Rattle.dn_arc.specs.Entries.{length_entries, cap_entries, cost_entries}
+use Rattle.dn_arc_theory.specs.Entries.{length_entries, cap_entries, cost_entries}
 use Rattle.dn_table.specs.GraphEntries.{graph_entries}
 use Rattle.dn_instance.specs.Items.{kind_known, arcs_of, length_arc_in, cap_arc_in, cost_arc_in, source_in, query_in, point_in, by_key}
 

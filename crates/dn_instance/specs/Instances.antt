@@ -3,9 +3,9 @@
 use Rattle.std.specs.Prelude.{ℕ, ℤ, pos, List, length}
 use Rattle.dn_line.specs.declared.kind.Kind.{Kind}
 use Rattle.dn_line.specs.declared.kind.Kind.TheVariants.{Min, Max, Sp, Ss, P2p, Co}
-use Rattle.dn_arc.specs.declared.arc.LengthArc.{LengthArc}
-use Rattle.dn_arc.specs.declared.arc.CapArc.{CapArc}
-use Rattle.dn_arc.specs.declared.arc.CostArc.{CostArc}
+use Rattle.dn_arc_theory.specs.declared.arc.LengthArc.{LengthArc}
+use Rattle.dn_arc_theory.specs.declared.arc.CapArc.{CapArc}
+use Rattle.dn_arc_theory.specs.declared.arc.CostArc.{CostArc}
 
 -- a graph has the nodes 1 to `nodes`, and its arcs in the order of the file, each with its ordered pair (SRC, DST)
 pub record Graph (Arc : Type 0) : Type 0 where

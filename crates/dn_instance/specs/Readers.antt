@@ -5,8 +5,8 @@ use Rattle.dn_line.specs.declared.line.Line.TheVariants as Item
 use Rattle.dn_line.specs.declared.word.Word.{Word}
 use Rattle.dn_line.specs.Pieces.{parts, is_line_feed}
 use Rattle.dn_line.specs.Words.{said_words}
-use Rattle.dn_arc.specs.Entries.{SpreadsForced}
-use Rattle.dn_arc.specs.Pairs.{bundle}
+use Rattle.dn_arc_theory.specs.Entries.{SpreadsForced}
+use Rattle.dn_arc_theory.specs.Pairs.{bundle}
 use Rattle.dn_instance.specs.Items.{arcs_of, cost_arc_in}
 use Rattle.dn_instance.specs.EntryCount.{entries_so_far}
 use Rattle.dn_instance.specs.Texts.{items_of, with_next, IsClean}

@@ -1,7 +1,7 @@
 -- When two instances pose the same problem (this project's profile).
 use Rattle.std.specs.Prelude.{◌≡◌, ℤ, List}
-use Rattle.dn_arc.specs.Meanings.{SameCurve, SameLength, SameTotal}
-use Rattle.dn_arc.specs.Pairs.{bundle}
+use Rattle.dn_arc_theory.specs.Meanings.{SameCurve, SameLength, SameTotal}
+use Rattle.dn_arc_theory.specs.Pairs.{bundle}
 use Rattle.dn_instance.specs.Instances.{Graph, Instance, MinCostFlow, MaxFlow, ShortestPaths, Sources, Queries, Coordinates}
 
 -- two graphs mean the same if they have the same NODES, and the arcs of each ordered pair mean the same in both

@@ -2,7 +2,7 @@ pub mod Parts
 pub mod InstanceEntries
 pub mod ItemFaults
 pub mod ArcTakes
-pub mod RowRuns
+pub mod RowHeads
 pub mod Bodies
 pub mod TextParts
 pub mod TextsSoFar

@@ -20,9 +20,9 @@ use Rattle.dn_line.specs.Words.{first, is_skip}
 use Rattle.dn_line.specs.LineTable.{is_companion}
 use Rattle.dn_line.specs.Faults.{Test, first_fault, head_tests, field_tests, fields}
 use Rattle.dn_line.specs.Reading.{words_read}
-use Rattle.dn_arc.specs.Kinds.{costs}
-use Rattle.dn_arc.specs.Capacities.{total_cap}
-use Rattle.dn_arc.specs.Pairs.{bundle}
+use Rattle.dn_arc_theory.specs.Kinds.{costs}
+use Rattle.dn_arc_theory.specs.Capacities.{total_cap}
+use Rattle.dn_arc_theory.specs.Pairs.{bundle}
 use Rattle.dn_instance.specs.Items.{Problem, problem_of, kind_known, counted, arcs_of, cap_arc_in, cost_arc_in, terminal_of}
 
 -- the item that a line reads as, unless the line is skipped or has a fault by itself

@@ -27,7 +27,7 @@ pub struct Held {
 
 impl Model for Held {
     ghost use Rattle.std.specs.Coded.{codes};
-    ghost use Rattle.dn_arc.proofs.StoredLaws.{curve_code};
+    ghost use Rattle.dn_arc_theory.proofs.StoredLaws.{curve_code};
     ghost use Rattle.dn_instance.specs.State.Helds.{Parsed, contents_of};
 
     ghost Value = { Parsed };

@@ -2,16 +2,13 @@
 ghost use Rattle.std.specs.Prelude.{◌≡◌, [], OnErr, Err, false};
 ghost use Rattle.dn_line.specs.declared.line.Line.TheVariants.{Supply, Terminal};
 ghost use Rattle.dn_line.specs.declared.kind.Kind.{Kind};
-ghost use Rattle.dn_line.specs.declared.kind.Kind.TheVariants.{Min};
 ghost use Rattle.dn_line.specs.LineTable.{is_companion};
 ghost use Rattle.dn_instance.specs.State.Bodies.{Keeps, TakesRow};
-ghost use Rattle.dn_instance.specs.State.RowRuns.{supply_line};
 ghost use Rattle.dn_instance.specs.State.TextParts.{MarksHold, terminals_of};
 
-use crate::body::RowTaker;
 use crate::items::{insert_supply, set_terminal};
 use crate::refusal::ItemFault;
-use dn_line::{Kind, Letter, Row};
+use dn_line::{Kind, Letter};
 use dn_nodes::NodeMap;
 use std::alloc::Global;
 
@@ -78,18 +75,5 @@ impl Marks {
             },
             _ => Some((0, 0)),
         }
-    }
-}
-
-// The marks take the rows of `min` node lines.
-impl RowTaker for Marks {
-    ghost kind = { Min };
-
-    ghost line = { supply_line };
-
-    ghost holds = { MarksHold };
-
-    fn take(&mut self, _alloc: Global, nodes: &i64, row: &Row) -> Result<(), ItemFault> {
-        self.take_supply(nodes, &row.first, &row.second)
     }
 }

@@ -1,16 +1,16 @@
 // Reads a text in any pieces.
-ghost use Rattle.std.specs.Prelude.{◌≡◌, ◌≤◌, ℕ, ◌+◌, List, [], ◌++◌, length, take, drop, Some, None, Err, ◌<◌, IfOk};
+ghost use Rattle.std.specs.Prelude.{◌≡◌, ◌≤◌, ℕ, ◌+◌, ◌-◌, ◌^◌, List, [], ◌++◌, length, take, Some, None, Err, ◌<◌, IfOk};
 ghost use Rattle.dn_line.specs.State.LineStates.{used_of};
 ghost use Rattle.dn_instance.specs.State.ReaderResults.{Fed, Outcome, refusal_of, fed_answer};
-ghost use Rattle.dn_instance.specs.State.ReaderStates.{Advances, CountsBefore, CountsRead, DeclaresBefore, DeclaresRead, KeepsRefusal, ReaderAt, ClosesLine, TakesAll, WantsAtEnd, WantsInPiece, WhileReading, first_line};
+ghost use Rattle.dn_instance.specs.State.ReaderStates.{Advances, CountsBefore, CountsRead, DeclaresBefore, DeclaresRead, KeepsRefusal, ReaderAt, ClosesLine, TakesAll, TakesBlock, WantsAtEnd, WantsInPiece, WhileReading, first_line};
 ghost use Rattle.dn_instance.specs.State.LineRefusals.{refused_at};
-ghost use Rattle.dn_instance.specs.State.TextsSoFar.{AfterLines, TextAt};
+ghost use Rattle.dn_instance.specs.State.TextsSoFar.{AfterLines, LeftOf, TextAt};
 
 use crate::declared::Declared;
 use crate::held::Held;
 use crate::refusal::{ItemFault, Place, Refusal};
 use crate::text_so_far::TextSoFar;
-use dn_line::{LineReader, RowBlock};
+use dn_line::{Head, LineReader, RowBlock, RowLine, left_behind};
 use std::alloc::Global;
 
 /// Reads a text that arrives in any pieces. Represents the bytes that it was fed.
@@ -90,6 +90,23 @@ impl Reader {
         }
     }
 
+    // Takes rows of lines with this head one after another, or keeps and returns the refusal of the first that has a
+    // fault.
+    fn take_block(&mut self, head: Head, rows: &[RowLine]) -> Result<(), Refusal>
+        requires room { self.now.text.closed + length rows.now < 2 ^ 63 - 2 }
+        ensures taken { (ls : List (List ℕ)) (bytes end : List ℕ) → LeftOf self.old.text ls bytes end head rows.now
+            → TakesBlock self.new ls bytes end result }
+        ensures line { self.new.line ≡ self.old.line }
+        ensures refusal { KeepsRefusal self.old self.new result }
+    {
+        for i in 0..rows.len() {
+            if let Err(fault) = self.text.take(self.alloc, head, &rows[i].row) {
+                return Err(self.refuse(fault));
+            }
+        }
+        Ok(())
+    }
+
     // If no line is open, takes rows of plain lines at the beginning of a piece, up to the first that has a fault. If
     // there is none, takes what `step` takes. Returns how many bytes it takes.
     fn advance(&mut self, block: &mut RowBlock, piece: &[u8]) -> Result<usize, Refusal>
@@ -101,12 +118,15 @@ impl Reader {
         ensures refusal { KeepsRefusal self.old self.new result }
     {
         if !self.line.pending() {
-            let front = self.text.take_rows(self.alloc, block, piece);
-            if let Some(fault) = front.fault {
-                return Err(self.refuse(fault));
-            }
-            if 0 < front.used {
-                return Ok(front.used);
+            if let Some(head) = self.text.read_block(self.alloc, block, piece) {
+                let rows = block.rows();
+                if let Err(refusal) = self.take_block(head, rows) {
+                    return Err(refusal);
+                }
+                let left = left_behind(rows, piece.len());
+                if left < piece.len() {
+                    return Ok(piece.len() - left);
+                }
             }
         }
         self.step(piece)

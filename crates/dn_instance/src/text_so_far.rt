@@ -1,29 +1,23 @@
 // The complete lines of a text: how many they are, and what their items make.
-ghost use Rattle.std.specs.Prelude.{◌≡◌, ◌<◌, ◌≤◌, ◌≤ℤ◌, ℕ, ◌+◌, ◌-◌, ◌^◌, pos, length, take, List, ◌∷◌, ◌++◌, [], OnOk, OnErr, Err, Some, MatchOption, get_or, None, true, false};
+ghost use Rattle.std.specs.Prelude.{◌≡◌, ◌<◌, ◌≤◌, ◌≤ℤ◌, ℕ, ◌+◌, ◌-◌, ◌^◌, pos, length, List, ◌∷◌, ◌++◌, [], OnOk, OnErr, Err, Some, IfSome, IsSome, get_or, None, true, false};
 ghost use Rattle.dn_line.specs.declared.kind.Kind.{Kind};
 ghost use Rattle.dn_line.specs.declared.line.Line.{Line};
-ghost use Rattle.dn_line.specs.declared.row_block.RowLine.{RowLine};
-ghost use Rattle.dn_line.specs.State.RowBlocks.{last_left};
 ghost use Rattle.dn_line.specs.State.RowItems.{problem_item};
-ghost use Rattle.dn_instance.specs.State.Bodies.{Keeps, TakesRows};
 ghost use Rattle.dn_instance.specs.State.Ends.{EndsWith};
 ghost use Rattle.dn_instance.specs.EntryCount.{entries_so_far};
 ghost use Rattle.dn_instance.specs.State.Declarations.{declared_in};
-ghost use Rattle.dn_instance.specs.Readers.{SpellsNeed};
 ghost use Rattle.dn_instance.specs.State.ItemFaults.{AnswersFault};
-ghost use Rattle.dn_instance.specs.Texts.{items_of, with_next};
-ghost use Rattle.dn_instance.specs.State.RowRuns.{IsRowHead, row_line, run_head};
-ghost use Rattle.dn_instance.specs.State.TextsSoFar.{AfterLines, AtLine, Declares, HasRead, IsOfRun, IsOrderFault, NeedsAfter, NextRead, ReadsRows, RoomFor, TakesItem, TakesRowOf, TextAt, fault_after, fault_next, text_kind};
+ghost use Rattle.dn_instance.specs.Texts.{items_of};
+ghost use Rattle.dn_instance.specs.State.RowHeads.{counted_head, run_head};
+ghost use Rattle.dn_instance.specs.State.TextsSoFar.{AfterLines, AfterRow, AtLine, ComeInTime, Declares, HasRead, IsOrderFault, NeedsAfter, NextRead, ReadsBlock, TakesItem, TakesRowOf, TextAt, fault_after, text_kind};
 
-use crate::body::{Body, Taken, take_rows};
+use crate::body::Body;
 use crate::declared::Declared;
 use crate::held::Held;
 use crate::marks::Marks;
 use crate::refusal::ItemFault;
 use dn_bundle::{Curve, Least, Total};
-use dn_line::{
-    BLOCK, Code, Head, Kind, LineReader, Row, RowBlock, RowLine, left_behind, letter_named,
-};
+use dn_line::{BLOCK, Code, Head, Kind, LineReader, Row, RowBlock, letter_named};
 use dn_table::TableSoFar;
 use std::alloc::Global;
 
@@ -145,30 +139,31 @@ impl TextSoFar {
         self.body = Some(Body::new(alloc, &kind));
     }
 
-    // Takes rows of lines with this head one after another, up to the first that has a fault or for which an allocation
-    // fails.
-    fn take_run(&mut self, alloc: Global, head: Head, rows: &[RowLine]) -> Taken
-        ensures taken { (kind : Kind) → IsRowHead kind head → RoomFor head rows.now self.old → TakesRows kind
-            (row_line kind head) self.old.nodes (HasRead self.old) (HasRead self.new) rows.now result }
-        ensures unchanged { result.rows ≡ 0 → Keeps (HasRead self.old) (HasRead self.new) }
-        ensures within { MatchOption result.fault (result.rows ≤ length rows.now)
-            (λ f. result.rows < length rows.now) }
-        ensures kept { self.new.closed ≡ self.old.closed }
+    // Takes the row of the next line, which has this head and no fault up to its fields, or returns the fault of its
+    // item. The line is not skipped.
+    #[inline(always)]
+    pub(crate) fn take(&mut self, alloc: Global, head: Head, row: &Row) -> Result<(), ItemFault>
+        requires room { self.now.closed < 2 ^ 63 - 2 }
+        ensures answer { AfterRow self.old head row.now (λ ls l. AnswersFault result (fault_after ls l)) }
+        ensures stands { AfterRow self.old head row.now (λ ls l. OnOk result (TextAt self.new (ls ++ l ∷ []))) }
+        ensures item { AfterRow self.old head row.now (λ ls l. result ≡ Err ItemFault.Memory → NeedsAfter ls l) }
+        ensures unchanged { (ls : List (List ℕ)) → TextAt self.old ls
+            → OnErr result (TextAt self.new ls) }
+        ensures counts { OnOk result (self.new.closed ≡ self.old.closed + 1) }
     {
-        if let Head::Node = head {
-            return take_rows(&mut self.marks, alloc, &self.nodes, rows);
+        match self.take_item(alloc, head, row) {
+            Ok(()) => {
+                self.closed += 1;
+                Ok(())
+            }
+            Err(fault) => Err(fault),
         }
-        let Some(body) = &mut self.body else {
-            return NO_ROWS;
-        };
-        let taken = body.take_rows(alloc, &self.nodes, rows);
-        // At most as many rows come as are still to come, so nothing saturates.
-        self.due = self.due.saturating_sub(taken.rows as i64);
-        taken
     }
 
-    // Takes the row of the next line, which has this head, or returns the fault of its item.
-    fn take(&mut self, alloc: Global, head: Head, row: &Row) -> Result<(), ItemFault>
+    // Takes the item of the row of the next line, which has this head, or returns the fault of the item. The caller
+    // counts the line.
+    #[inline(always)]
+    fn take_item(&mut self, alloc: Global, head: Head, row: &Row) -> Result<(), ItemFault>
         ensures taken { TakesRowOf self.old self.new head row.now result }
         ensures unchanged { (before : List Line) → HasRead self.old before → OnErr result (HasRead self.new before) }
         ensures kept { self.new.closed ≡ self.old.closed }
@@ -178,15 +173,43 @@ impl TextSoFar {
                 self.begin(alloc, kind, row);
                 Ok(())
             }
-            Head::Node => {
-                if self.has_terminals() {
-                    let letter = letter_named(&row.second);
-                    self.marks.take_terminal(&self.nodes, &row.first, letter)
-                } else {
-                    self.take_one(alloc, head, row)
-                }
+            Head::Node => self.take_node(row),
+            _ => self.take_counted(alloc, row),
+        }
+    }
+
+    // Takes the row of a counted line, or returns the fault of its item.
+    #[inline(always)]
+    fn take_counted(&mut self, alloc: Global, row: &Row) -> Result<(), ItemFault>
+        ensures taken { (kind : Kind) → text_kind self.old ≡ Some kind
+            → TakesRowOf self.old self.new (counted_head kind) row.now result }
+        ensures unchanged { (before : List Line) → HasRead self.old before → OnErr result (HasRead self.new before) }
+        ensures kept { self.new.closed ≡ self.old.closed }
+    {
+        let Some(body) = &mut self.body else {
+            return Err(ItemFault::Text(Code::EarlyLine));
+        };
+        match body.take(alloc, &self.nodes, row) {
+            Ok(()) => {
+                // This line is still to come, so nothing wraps.
+                self.due = self.due.wrapping_sub(1);
+                Ok(())
             }
-            _ => self.take_one(alloc, head, row),
+            Err(fault) => Err(fault),
+        }
+    }
+
+    // Takes the row of a node line, or returns the fault of its item.
+    fn take_node(&mut self, row: &Row) -> Result<(), ItemFault>
+        ensures taken { TakesRowOf self.old self.new Head.Node row.now result }
+        ensures unchanged { (before : List Line) → HasRead self.old before → OnErr result (HasRead self.new before) }
+        ensures kept { self.new.closed ≡ self.old.closed }
+    {
+        if self.has_terminals() {
+            let letter = letter_named(&row.second);
+            self.marks.take_terminal(&self.nodes, &row.first, letter)
+        } else {
+            self.marks.take_supply(&self.nodes, &row.first, &row.second)
         }
     }
 
@@ -196,37 +219,6 @@ impl TextSoFar {
         ensures no { result ≡ false → text_kind self.now ≡ Some Kind.Max → ⊥ }
     {
         matches!(&self.body, Some(Body::Max(_)))
-    }
-
-    // Takes the row of the next line, which has this head, as a run of one row.
-    fn take_one(&mut self, alloc: Global, head: Head, row: &Row) -> Result<(), ItemFault>
-        ensures taken { IsOfRun self.old head → TakesRowOf self.old self.new head row.now result }
-        ensures unchanged { (before : List Line) → HasRead self.old before → OnErr result (HasRead self.new before) }
-        ensures kept { self.new.closed ≡ self.old.closed }
-    {
-        let line = RowLine { row: *row, left: 0 };
-        match self.take_run(alloc, head, &[line]).fault {
-            Some(fault) => Err(fault),
-            None => Ok(()),
-        }
-    }
-
-    // Takes the item of the next line, or returns the line's fault. The caller counts the line, and checks its number.
-    fn judge(&mut self, alloc: Global, line: &LineReader) -> Result<(), ItemFault>
-        ensures answer { AtLine self.old line.now (λ items ws. AnswersFault result (fault_next items ws)) }
-        ensures read { AtLine self.old line.now (λ items ws. OnOk result (HasRead self.new (with_next items ws))) }
-        ensures unchanged { (items : List Line) → HasRead self.old items
-            → OnErr result (HasRead self.new items) }
-        ensures kept { self.new.closed ≡ self.old.closed }
-        ensures item { AtLine self.old line.now (λ items ws. result ≡ Err ItemFault.Memory → SpellsNeed items ws) }
-    {
-        match self.read(line) {
-            Ok((head, row)) => match head {
-                Head::Skip => Ok(()),
-                _ => self.take(alloc, head, &row),
-            },
-            Err(code) => Err(ItemFault::Text(code)),
-        }
     }
 
     // Takes the next line, or returns its fault.
@@ -240,51 +232,52 @@ impl TextSoFar {
         if !self.has_room(0) {
             return Err(ItemFault::Text(Code::TooLong));
         }
-        match self.judge(alloc, line) {
-            Ok(()) => {
-                self.closed += 1;
-                Ok(())
-            }
-            Err(fault) => Err(fault),
+        match self.read(line) {
+            Ok((head, row)) => match head {
+                Head::Skip => {
+                    self.closed += 1;
+                    Ok(())
+                }
+                _ => self.take(alloc, head, &row),
+            },
+            Err(code) => Err(ItemFault::Text(code)),
         }
     }
 
-    // Takes the rows of plain lines at the beginning of these bytes, at most as many as one block has and as are still
-    // to come. All are counted lines, or all are `min` node lines. Stops before the first that comes too late, that has
-    // a fault, or for which an allocation fails. The block is memory to read into.
-    pub(crate) fn take_rows(
+    // Reads the rows of plain lines at the beginning of these bytes into a block, all with the head that is returned,
+    // and as many as may come next without a fault of their order. Returns `None` before the problem line, and if a
+    // line of the block could be too late for a text (`TooLong`).
+    pub(crate) fn read_block(
         &mut self,
         alloc: Global,
         block: &mut RowBlock,
         bytes: &[u8],
-    ) -> RowsTaken
-        ensures taken { (ls : List (List ℕ)) → TextAt self.old ls → ReadsRows self.new ls bytes.now result }
-        ensures within { result.used ≤ length bytes.now }
+    ) -> Option<Head>
+        ensures text { self.new ≡ self.old }
+        ensures left { IfSome result (λ head. ReadsBlock self.old head bytes.now block.new) }
+        ensures room { IsSome result → self.old.closed + length block.new < 2 ^ 63 - 2 }
     {
-        let Some(body) = &self.body else {
-            return NONE_TAKEN;
-        };
-        let kind = body.kind();
-        let head = row_head(kind, bytes);
         if !self.has_room(BLOCK as u64) {
-            return NONE_TAKEN;
+            return None;
         }
-        if let Some(_) = self.order_fault(head) {
-            return NONE_TAKEN;
-        }
+        let Some(kind) = self.kind() else {
+            return None;
+        };
+        let head = row_head(kind, bytes);
         block.read(kind, self.most(head), bytes);
-        let rows = block.rows();
-        let taken = self.take_run(alloc, head, rows);
-        self.closed += taken.rows as u64;
-        rows_taken_of(rows, &taken, bytes)
+        if let Some(body) = &mut self.body {
+            body.look_ahead(alloc, block.rows());
+        }
+        Some(head)
     }
 
     // Returns how many lines with this head may come next: at most a block of them, and no more than are still to come
     // if they are counted.
     fn most(&self, head: Head) -> usize
-        ensures { (head ≡ Head.Node → ⊥) → 0 < result → pos result ≤ℤ self.now.due }
+        ensures { 0 < result → ComeInTime self.now head result }
     {
         match (head, usize::try_from(self.due)) {
+            (Head::Node, _) if self.due < self.count => 0,
             (Head::Node, _) => BLOCK,
             (_, Ok(due)) => due,
             (_, Err(_)) => 0,
@@ -340,41 +333,6 @@ impl TextSoFar {
             return Err(Code::TooFewLines);
         }
         Ok(Held::new(nodes, count, marks.supplies, terminals, body.end()))
-    }
-}
-
-// No rows.
-const NO_ROWS: Taken = Taken {
-    rows: 0,
-    fault: None,
-};
-
-// The lines at the beginning of some bytes that were taken as rows.
-#[derive(Clone, Copy)]
-pub(crate) struct RowsTaken {
-    // The count of their bytes, with the LFs that end the lines.
-    pub(crate) used: usize,
-    // The fault of the line after them, if its row was not taken for a fault.
-    pub(crate) fault: Option<ItemFault>,
-}
-
-// No lines.
-const NONE_TAKEN: RowsTaken = RowsTaken {
-    used: 0,
-    fault: None,
-};
-
-// Returns the lines of those of these rows that were taken, which begin these bytes.
-fn rows_taken_of(rows: &[RowLine], taken: &Taken, bytes: &[u8]) -> RowsTaken
-    requires { taken.now.rows ≤ length rows.now }
-    ensures used { result.used ≡ length bytes.now - last_left (length bytes.now) (take taken.now.rows rows.now) }
-    ensures fault { result.fault ≡ taken.now.fault }
-{
-    let left = left_behind(&rows[..taken.rows], bytes.len());
-    RowsTaken {
-        // No more bytes are left than there were, so nothing saturates.
-        used: bytes.len().saturating_sub(left),
-        fault: taken.fault,
     }
 }
 

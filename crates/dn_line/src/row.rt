@@ -1,5 +1,6 @@
 // Reads a line of a letter and numbers in plain spelling in one pass.
 ghost use Rattle.std.specs.Prelude.{◌≡◌, ◌≤◌, ℕ, IfSome, true, length, slice_get};
+ghost use Rattle.std.proofs.Common.{rules};
 ghost use Rattle.dn_line.specs.State.LineStates.{is_clear};
 ghost use Rattle.dn_line.specs.State.Rows.{AreNatural, AreNumeric, BeginsWithRow, FieldsFit, HasNumbers, field_fits, row_numbers};
 
@@ -47,20 +48,21 @@ pub(crate) trait Count {
     // The count.
     ghost count: { ℕ };
 
-    // Reads this many numbers that fit these fields, with blanks between them, and the LF after them.
-    fn read<'a>(fields: &[Field], bytes: &'a [u8]) -> Option<RowBefore<'a>>
-        requires count { length fields.now ≡ count }
-        requires numeric { AreNumeric fields.now }
-        ensures numbers { IfSome result (λ r. HasNumbers count bytes.now r.row r.rest.now) }
-        ensures fit { IfSome result (λ r. FieldsFit fields.now (row_numbers count r.row)) };
-
-    // Reads the same in less time if there is one space between the numbers, and each, except for the last of five, has
-    // at most eight digits. Returns none for other bytes, and for too few.
+    // Reads this many numbers that fit these fields, and the LF after them, if there is one space between the numbers,
+    // and each, except for the last of five, has at most eight digits. Returns none for other bytes, for too few, and
+    // always for one number or two.
+    #[inline(always)]
     fn read_short<'a>(fields: &[Field], bytes: &'a [u8]) -> Option<RowBefore<'a>>
         requires count { length fields.now ≡ count }
         requires numeric { AreNumeric fields.now }
         ensures numbers { IfSome result (λ r. HasNumbers count bytes.now r.row r.rest.now) }
-        ensures fit { IfSome result (λ r. FieldsFit fields.now (row_numbers count r.row)) };
+        ensures fit { IfSome result (λ r. FieldsFit fields.now (row_numbers count r.row)) }
+    {
+        None
+    }
+
+    // A row has room for this many numbers.
+    ghost few: { (1 ≤ count) × (count ≤ 5) };
 }
 
 // One number.
@@ -69,15 +71,7 @@ pub(crate) struct One;
 impl Count for One {
     ghost count = { 1 };
 
-    #[inline(always)]
-    fn read<'a>(fields: &[Field], bytes: &'a [u8]) -> Option<RowBefore<'a>> {
-        fitting(fields, one_number(bytes)?)
-    }
-
-    #[inline(always)]
-    fn read_short<'a>(_fields: &[Field], _bytes: &'a [u8]) -> Option<RowBefore<'a>> {
-        None
-    }
+    ghost few = { Prim.search rules };
 }
 
 // Two numbers.
@@ -86,15 +80,7 @@ pub(crate) struct Two;
 impl Count for Two {
     ghost count = { 2 };
 
-    #[inline(always)]
-    fn read<'a>(fields: &[Field], bytes: &'a [u8]) -> Option<RowBefore<'a>> {
-        fitting(fields, two_numbers(bytes)?)
-    }
-
-    #[inline(always)]
-    fn read_short<'a>(_fields: &[Field], _bytes: &'a [u8]) -> Option<RowBefore<'a>> {
-        None
-    }
+    ghost few = { Prim.search rules };
 }
 
 // Three numbers.
@@ -103,10 +89,7 @@ pub(crate) struct Three;
 impl Count for Three {
     ghost count = { 3 };
 
-    #[inline(always)]
-    fn read<'a>(fields: &[Field], bytes: &'a [u8]) -> Option<RowBefore<'a>> {
-        fitting(fields, any_three(bytes)?)
-    }
+    ghost few = { Prim.search rules };
 
     #[inline(always)]
     fn read_short<'a>(_fields: &[Field], bytes: &'a [u8]) -> Option<RowBefore<'a>> {
@@ -122,10 +105,7 @@ pub(crate) struct Five;
 impl Count for Five {
     ghost count = { 5 };
 
-    #[inline(always)]
-    fn read<'a>(fields: &[Field], bytes: &'a [u8]) -> Option<RowBefore<'a>> {
-        fitting(fields, any_five(bytes)?)
-    }
+    ghost few = { Prim.search rules };
 
     #[inline(always)]
     fn read_short<'a>(fields: &[Field], bytes: &'a [u8]) -> Option<RowBefore<'a>> {
@@ -164,7 +144,8 @@ pub(crate) fn short_row<'a, N: Count>(
 
 // Reads the line that begins these bytes, if it is plain: this letter and numbers that fit these fields, with blanks
 // between them, no number with a `+`, and an LF at its end. Returns none for any other line, whether or not that line
-// has a fault. Within its caller it would take registers from the reading of short lines.
+// has a fault. Within its caller it would take registers from the reading of short lines. It is compiled for each `N`,
+// for which the number of fields is a constant.
 #[inline(never)]
 pub(crate) fn any_row<'a, N: Count>(
     letter: u8,
@@ -182,37 +163,38 @@ pub(crate) fn any_row<'a, N: Count>(
     if *first != letter {
         return None;
     }
-    let found = N::read(fields, after_blanks(after_letter)?)?;
-    Some(found)
+    let found = numbers(fields.len(), after_blanks(after_letter)?)?;
+    let fitting = fitting(fields, found)?;
+    Some(fitting)
 }
 
-// Reads one number.
-fn one_number(bytes: &[u8]) -> Option<RowBefore<'_>>
-    ensures { IfSome result (λ r. HasNumbers 1 bytes.now r.row r.rest.now) }
+// Reads this many numbers of any length, with blanks between them, and the LF after them.
+#[inline(always)]
+fn numbers(count: usize, bytes: &[u8]) -> Option<RowBefore<'_>>
+    requires some { 1 ≤ count }
+    requires few { count ≤ 5 }
+    ensures { IfSome result (λ r. HasNumbers count bytes.now r.row r.rest.now) }
 {
-    let first = any_front(bytes)?;
+    let mut all = [0i64; 5];
+    let mut rest = bytes;
+    let last = count - 1;
+    for i in 0..last {
+        let front = number_before(rest)?;
+        all[i] = front.number;
+        rest = front.rest;
+    }
+    let front = any_front(rest)?;
+    all[last] = front.number;
+    let [first, second, third, fourth, fifth] = all;
     Some(RowBefore {
         row: Row {
-            first: first.number,
-            ..NO_ROW
+            first,
+            second,
+            third,
+            fourth,
+            fifth,
         },
-        rest: after_line_end(first.rest)?,
-    })
-}
-
-// Reads two numbers.
-fn two_numbers(bytes: &[u8]) -> Option<RowBefore<'_>>
-    ensures { IfSome result (λ r. HasNumbers 2 bytes.now r.row r.rest.now) }
-{
-    let first = number_before(bytes)?;
-    let second = any_front(first.rest)?;
-    Some(RowBefore {
-        row: Row {
-            first: first.number,
-            second: second.number,
-            ..NO_ROW
-        },
-        rest: after_line_end(second.rest)?,
+        rest: after_line_end(front.rest)?,
     })
 }
 
@@ -244,24 +226,6 @@ fn short_three(bytes: &[u8]) -> Option<RowBefore<'_>>
     })
 }
 
-// Reads three numbers of any length.
-fn any_three(bytes: &[u8]) -> Option<RowBefore<'_>>
-    ensures { IfSome result (λ r. HasNumbers 3 bytes.now r.row r.rest.now) }
-{
-    let first = number_before(bytes)?;
-    let second = number_before(first.rest)?;
-    let third = any_front(second.rest)?;
-    Some(RowBefore {
-        row: Row {
-            first: first.number,
-            second: second.number,
-            third: third.number,
-            ..NO_ROW
-        },
-        rest: after_line_end(third.rest)?,
-    })
-}
-
 // The greatest length of a line of four numbers of one to eight digits and one more number, with one byte for the blank
 // after each of the first four and eight bytes to read at the last.
 const SHORT_FIVE: usize = 44;
@@ -280,27 +244,6 @@ fn short_five(bytes: &[u8]) -> Option<RowBefore<'_>>
     let third = marked_before(second.rest, second.marks)?;
     let fourth = before_by_marks(third.rest, third.marks)?;
     let fifth = last_front(fourth.rest)?;
-    Some(RowBefore {
-        row: Row {
-            first: first.number,
-            second: second.number,
-            third: third.number,
-            fourth: fourth.number,
-            fifth: fifth.number,
-        },
-        rest: after_line_end(fifth.rest)?,
-    })
-}
-
-// Reads five numbers of any length.
-fn any_five(bytes: &[u8]) -> Option<RowBefore<'_>>
-    ensures { IfSome result (λ r. HasNumbers 5 bytes.now r.row r.rest.now) }
-{
-    let first = number_before(bytes)?;
-    let second = number_before(first.rest)?;
-    let third = number_before(second.rest)?;
-    let fourth = number_before(third.rest)?;
-    let fifth = any_front(fourth.rest)?;
     Some(RowBefore {
         row: Row {
             first: first.number,

@@ -5,7 +5,7 @@ use Rattle.std.specs.Ordering.{is_lt}
 use Rattle.std.proofs.lemmas.Bool.{cases_Bool, cases_lt}
 use Rattle.std.proofs.lemmas.Int.{ints, by_lt_z}
 use Rattle.std.proofs.lemmas.List.Elements.{filter-append}
-use Rattle.dn_arc.proofs.CanonsLaws.{by_cmp}
+use Rattle.dn_arc_theory.proofs.CanonsLaws.{by_cmp}
 use Rattle.std.specs.BTreeMap.Range.{entries_between}
 use Rattle.std.specs.declared.ops.Bound.TheVariants.{Unbounded}
 use Rattle.dn_nodes.specs.State.Links.{direct, direct_from, valued, value_at, with_value}

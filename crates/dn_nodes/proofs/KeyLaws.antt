@@ -9,8 +9,8 @@ use Rattle.std.proofs.lemmas.Int.{ints}
 use Rattle.std.proofs.lemmas.Cmp.{int_cmp_total}
 use Rattle.std.proofs.lemmas.Map.Keys.{sorted_head, sorted_tail}
 use Rattle.std.proofs.lemmas.Map.Lookups.{exact_signed}
-use Rattle.dn_arc.proofs.PairLaws.{equal_is, int_self, reversed}
-use Rattle.dn_arc.proofs.CanonsLaws.{by_cmp}
+use Rattle.dn_arc_theory.proofs.PairLaws.{equal_is, int_self, reversed}
+use Rattle.dn_arc_theory.proofs.CanonsLaws.{by_cmp}
 use Rattle.dn_nodes.specs.State.Nodes.{at, Rises}
 
 -- a key is itself

@@ -6,7 +6,7 @@ use Rattle.std.specs.Map.{lookup}
 use Rattle.std.proofs.lemmas.Bool.{cases_Bool}
 use Rattle.std.proofs.lemmas.Int.{ints}
 use Rattle.std.proofs.lemmas.List.{get_or-set_other}
-use Rattle.dn_arc.proofs.CanonsLaws.{by_cmp}
+use Rattle.dn_arc_theory.proofs.CanonsLaws.{by_cmp}
 use Rattle.dn_nodes.specs.State.Nodes.{at, Rises}
 use Rattle.dn_nodes.specs.State.Links.{direct, AreFar}
 use Rattle.dn_nodes.proofs.KeyLaws.{at_self, Above, above_none, rises_head, rises_tail, lookup_right}

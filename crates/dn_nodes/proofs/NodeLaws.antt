@@ -4,7 +4,7 @@ use Rattle.std.specs.BTreeMap.{insert_entry}
 use Rattle.std.specs.List.{AllByRecursion, list_any}
 use Rattle.std.specs.Map.{keys_of, lookup}
 use Rattle.std.proofs.lemmas.Bool.{cases_Bool}
-use Rattle.dn_arc.proofs.CanonsLaws.{by_cmp}
+use Rattle.dn_arc_theory.proofs.CanonsLaws.{by_cmp}
 use Rattle.dn_nodes.specs.State.Nodes.{Gains, Nodes, Rises, at, is_known, with_entry}
 use Rattle.dn_nodes.specs.State.Links.{linked, with_value, value_at, valued, AreWithin, IsShort}
 use Rattle.dn_nodes.proofs.KeyLaws.{Above, above_none, above_trans, at_is, at_self, insert_first, insert_rises, rises_cons, rises_head, rises_none, rises_tail}

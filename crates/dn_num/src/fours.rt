@@ -1,4 +1,5 @@
-// The four digits of each number below 10^4.
+// The four digits of each number below 10^4. They are written out, because the kit takes neither a loop nor a call of a
+// `const fn` in the value of a constant.
 
 pub(crate) static FOURS: [u8; 40_000] = *b"\
     0000000100020003000400050006000700080009001000110012001300140015001600170018001900200021002200230024\

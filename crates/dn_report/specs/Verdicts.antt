@@ -2,8 +2,8 @@
 use Rattle.std.specs.Prelude.{ℕ, ℤ, pos, List, [], ◌∷◌, ◌++◌, codes, Option, Some, None}
 use Rattle.std.specs.Fmt.{signed_decimal}
 use Rattle.dn_line.specs.Names.{kind_name}
-use Rattle.dn_arc.specs.declared.difference.How.{How}
-use Rattle.dn_arc.specs.declared.difference.How.TheVariants.{Lengths, Totals, Costs}
+use Rattle.dn_arc_theory.specs.declared.difference.How.{How}
+use Rattle.dn_arc_theory.specs.declared.difference.How.TheVariants.{Lengths, Totals, Costs}
 use Rattle.dn_instance.specs.declared.verdict.Verdict.{Verdict}
 use Rattle.dn_instance.specs.declared.verdict.Verdict.TheVariants.{Same, Kind, Nodes, Supply, Source, Sink, Pair, Length, Item, Point}
 use Rattle.dn_sink.specs.Rows.{Cells}

@@ -1,7 +1,7 @@
 // The line of an ordered pair, made from the arcs that its bundle lists.
 ghost use Rattle.std.specs.Prelude.{◌≡◌, ◌≤◌, ◌++◌, ◌∷◌, List, codes, length};
 ghost use Rattle.std.specs.Fmt.{signed_decimal};
-ghost use Rattle.dn_arc.specs.State.Bundles.{meant};
+ghost use Rattle.dn_arc_theory.specs.State.Bundles.{meant};
 ghost use Rattle.dn_sink.specs.Rows.{Cells, line_text};
 ghost use Rattle.dn_report.specs.Shows.{cost_words, forced_words, pair_row, total_words};
 ghost use Rattle.dn_report.specs.State.ListedRows.{length_words};

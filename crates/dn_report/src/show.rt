@@ -1,7 +1,7 @@
 // The lines that `show` prints for a parsed instance.
 ghost use Rattle.std.specs.Prelude.{◌++◌, ℕ, List, IsTrue, OnOk};
 ghost use Rattle.std.specs.List.{concat};
-ghost use Rattle.dn_arc.specs.declared.arc.Form.{Form};
+ghost use Rattle.dn_arc_theory.specs.declared.arc.Form.{Form};
 ghost use Rattle.dn_sink.specs.Rows.{text_of};
 ghost use Rattle.dn_sink.specs.Puts.{Puts};
 ghost use Rattle.dn_report.specs.State.ListedRows.{ShowsHeld, held_rows, table_rows, listed_rows};

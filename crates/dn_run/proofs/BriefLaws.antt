@@ -1,11 +1,11 @@
 -- Lemmas that a run for which all is said is also one for which only the answer is said.
 use Rattle.std.proofs.Common.{◌≡◌, ◌⊎◌, ℕ, List, Option, None, Some, IfSome, refl, inl, inr}
-use Rattle.dn_arc.specs.declared.arc.Form.{Form}
+use Rattle.dn_arc_theory.specs.declared.arc.Form.{Form}
 use Rattle.dn_command.specs.Commands.{Asked, Show, Check, Canon, Compare, asks}
 use Rattle.dn_command.specs.declared.request.Request.{Request}
 use Rattle.dn_command.specs.declared.request.Request.TheVariants as requests
-use Rattle.dn_files.specs.declared.files.FilesFault.{FilesFault}
-use Rattle.dn_files.specs.declared.files.FilesFault.TheVariants as Files
+use Rattle.dn_host.specs.declared.files.FilesFault.{FilesFault}
+use Rattle.dn_host.specs.declared.files.FilesFault.TheVariants as Files
 use Rattle.dn_instance.specs.Instances.{Instance}
 use Rattle.dn_instance.specs.Texts.{Reads}
 use Rattle.dn_instance.specs.declared.companion.CompanionFault.{CompanionFault}

@@ -1,7 +1,7 @@
 -- Lemmas on how each command ends.
 use Rattle.std.proofs.Common.{◌≡◌, ℕ, List, [], Option, Some, None, Ok, Err, IfSome, refl, sym, ◌∙◌, inr, ◌≤◌, arith}
 use Rattle.dn_line.specs.declared.kind.Kind.{Kind}
-use Rattle.dn_arc.specs.declared.arc.Form.{Form}
+use Rattle.dn_arc_theory.specs.declared.arc.Form.{Form}
 use Rattle.dn_instance.specs.Companions.{companion_fit}
 use Rattle.dn_instance.specs.State.SourceResults.{HoldsCopied}
 use Rattle.dn_instance.specs.State.Helds.{Parsed, IsHeld, OfBoth, contents_kind}
@@ -27,7 +27,7 @@ use Rattle.dn_run.specs.Findings.{Never, PutsCanon, PutsChecked, PutsCompared, P
 use Rattle.dn_run.specs.Streams.{SinkRun, sink_run}
 use Rattle.dn_run.specs.Texts.{AskedText, IsRefusedCanon, IsRefusedCopy, IsRefusedText, unopened}
 use Rattle.dn_run.specs.State.TextReads.{IsCopy, IsRead}
-use Rattle.dn_files.specs.declared.files.FilesFault.{FilesFault}
+use Rattle.dn_host.specs.declared.files.FilesFault.{FilesFault}
 use Rattle.dn_run.proofs.OutcomeLaws.{by_behind, on_held, on_left, on_left_read, on_read, on_refused}
 use Rattle.dn_sink.specs.Sinks.{SinkFacts}
 use Rattle.dn_sink.specs.Rows.{line_text}

@@ -10,7 +10,7 @@ use Rattle.dn_instance.specs.declared.refusal.Refusal.TheVariants.{Read}
 use Rattle.dn_sink.specs.Puts.{HasPut, Puts}
 use Rattle.dn_sink.specs.declared.sink.SinkFault.{SinkFault}
 use Rattle.dn_command.specs.Commands.{Asked}
-use Rattle.dn_files.specs.Takings.{FilesFacts}
+use Rattle.dn_host.specs.Takings.{FilesFacts}
 use Rattle.dn_line.specs.Sources.{SourceFacts}
 use Rattle.dn_run.specs.declared.stop.Stop.{Stop}
 use Rattle.dn_run.specs.Answers.{Answer, Done, IsAnswerTo, Refused}

@@ -7,7 +7,7 @@ use Rattle.dn_instance.specs.State.SourceResults.{CopyOutcome, Copied, SourceOut
 use Rattle.dn_instance.specs.declared.refusal.Refusal.{Refusal}
 use Rattle.dn_instance.specs.declared.refusal.Refusal.TheVariants.{Text, Memory, Read, Endless}
 use Rattle.dn_instance.proofs.SourceLaws.{ran_out}
-use Rattle.dn_files.specs.declared.files.FilesFault.{FilesFault}
+use Rattle.dn_host.specs.declared.files.FilesFault.{FilesFault}
 use Rattle.dn_run.specs.Texts.{AskedText, IsRefusedCopy, IsRefusedText}
 use Rattle.dn_run.specs.TextSources.{ComesOf, TextSources, text_of}
 use Rattle.dn_run.specs.State.TextReads.{IsRead, ReadsAs}

@@ -1,6 +1,6 @@
 -- Lemmas on what a run does for the command that its words ask for, and on the texts that it does not accept.
 use Rattle.std.proofs.Common.{◌≡◌, ◌⊎◌, ℕ, List, Option, Some, None, IfSome, refl, sym, ◌∙◌, inl, inr, arith, Result, true, false}
-use Rattle.dn_arc.specs.declared.arc.Form.{Form}
+use Rattle.dn_arc_theory.specs.declared.arc.Form.{Form}
 use Rattle.dn_instance.specs.Instances.{Instance}
 use Rattle.dn_instance.specs.Texts.{Reads}
 use Rattle.dn_instance.specs.declared.companion.CompanionFault.{CompanionFault}
@@ -20,8 +20,8 @@ use Rattle.dn_run.specs.Runs.{Performs, IsRefusedRun}
 use Rattle.dn_run.specs.State.NotAccepted.{NotAccepted}
 use Rattle.dn_run.specs.Streams.{SinkRun, sink_run}
 use Rattle.dn_run.specs.Texts.{AskedText, IsRefusedCanon, IsRefusedCopy, IsRefusedText, unopened}
-use Rattle.dn_files.specs.declared.files.FilesFault.{FilesFault}
-use Rattle.dn_files.specs.declared.files.FilesFault.TheVariants as Files
+use Rattle.dn_host.specs.declared.files.FilesFault.{FilesFault}
+use Rattle.dn_host.specs.declared.files.FilesFault.TheVariants as Files
 use Rattle.dn_run.proofs.OutcomeLaws.{by_behind}
 use Rattle.dn_line.specs.Sources.{SourceFacts}
 use Rattle.dn_sink.specs.Sinks.{SinkFacts}
@@ -30,7 +30,7 @@ use Rattle.dn_command.specs.declared.command.Command.{Command}
 use Rattle.dn_command.specs.declared.request.Request.TheVariants as requests
 use Rattle.dn_run.specs.State.Endings.{answer_of}
 use Rattle.dn_run.specs.State.CommandRuns.{Does}
-use Rattle.dn_files.specs.Takings.{FilesFacts}
+use Rattle.dn_host.specs.Takings.{FilesFacts}
 use Rattle.dn_run.specs.Words.{AskedRun, Ran, twice_line}
 use Rattle.dn_run.specs.declared.stop.Stop.{Stop}
 

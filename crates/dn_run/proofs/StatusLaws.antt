@@ -2,7 +2,7 @@
 use Rattle.std.specs.Io.KnownBytes.{Appends}
 use Rattle.std.proofs.Common.{◌≡◌, ◌⊎◌, ℕ, List, Option, None, Some, inl, inr, refl, ap, subst, ◌∙◌}
 use Rattle.dn_line.specs.declared.code.Code.{Code}
-use Rattle.dn_arc.specs.declared.arc.Form.{Form}
+use Rattle.dn_arc_theory.specs.declared.arc.Form.{Form}
 use Rattle.dn_instance.specs.Instances.{Instance}
 use Rattle.dn_instance.specs.SourceReads.{IsOfReading}
 use Rattle.dn_instance.specs.Texts.{IsFirstFault, Reads}

@@ -5,7 +5,7 @@ use Rattle.dn_instance.specs.Instances.{Instance}
 use Rattle.dn_instance.specs.Texts.{Reads}
 use Rattle.dn_instance.specs.declared.refusal.Refusal.{Refusal}
 use Rattle.dn_run.specs.Answers.{Answer, Refused}
-use Rattle.dn_files.specs.Takings.{AsksOne, FilesFacts, KeepsOthers, TakesBack}
+use Rattle.dn_host.specs.Takings.{AsksOne, FilesFacts, KeepsOthers, TakesBack}
 use Rattle.dn_command.specs.Requests.{IsReadByClap}
 use Rattle.dn_run.specs.Details.{Detail}
 use Rattle.dn_run.specs.Texts.{AskedText}

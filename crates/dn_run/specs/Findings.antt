@@ -1,8 +1,8 @@
 -- What commands put on `out` for the texts that they read (this project's profile).
 use Rattle.std.specs.Prelude.{◌≡◌, ◌↔◌, ℕ, ◌≤◌, List, true, Option, Some, Ok, Err}
 use Rattle.dn_line.specs.declared.kind.Kind.{Kind}
-use Rattle.dn_arc.specs.declared.arc.Form.{Form}
-use Rattle.dn_arc.specs.declared.arc.Form.TheVariants.{One, Two}
+use Rattle.dn_arc_theory.specs.declared.arc.Form.{Form}
+use Rattle.dn_arc_theory.specs.declared.arc.Form.TheVariants.{One, Two}
 use Rattle.dn_instance.specs.Companions.{companion_fit}
 use Rattle.dn_instance.specs.Instances.{Instance, kind_of}
 use Rattle.dn_instance.specs.Sameness.{IsSame}

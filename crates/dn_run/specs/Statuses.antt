@@ -2,7 +2,7 @@
 use Rattle.std.specs.Prelude.{◌≡◌, ◌⊎◌, ℕ, List, Option, Some, None, IfSome, IsTrue, true, false}
 use Rattle.std.specs.Io.KnownBytes.{Appends}
 use Rattle.dn_line.specs.declared.code.Code.{Code}
-use Rattle.dn_arc.specs.declared.arc.Form.{Form}
+use Rattle.dn_arc_theory.specs.declared.arc.Form.{Form}
 use Rattle.dn_instance.specs.Instances.{Instance}
 use Rattle.dn_instance.specs.Texts.{IsFirstFault, Reads}
 use Rattle.dn_instance.specs.declared.companion.CompanionFault.{CompanionFault}

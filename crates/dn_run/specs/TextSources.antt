@@ -5,7 +5,7 @@ use Rattle.dn_line.specs.Sources.{SourceFacts}
 use Rattle.dn_instance.specs.Readers.{ended}
 use Rattle.dn_instance.specs.SourceReads.{CleanSoFar, GaveLast, PulledWhileClean, RanOut, after_pulls}
 use Rattle.dn_instance.specs.Texts.{IsClean}
-use Rattle.dn_files.specs.declared.files.FilesFault.{FilesFault}
+use Rattle.dn_host.specs.declared.files.FilesFault.{FilesFault}
 use Rattle.dn_run.specs.Texts.{AskedText}
 
 -- the sources of a text that a run asked for: which the files can hand out for it, which they can have taken back, and

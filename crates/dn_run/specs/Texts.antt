@@ -1,13 +1,13 @@
 -- A text that a run asks for, and why it is refused (this project's profile).
 use Rattle.std.specs.Prelude.{◌⊎◌, ℕ, List, Option}
-use Rattle.dn_arc.specs.declared.arc.Form.{Form}
+use Rattle.dn_arc_theory.specs.declared.arc.Form.{Form}
 use Rattle.dn_instance.specs.Instances.{Instance}
 use Rattle.dn_instance.specs.Texts.{IsFirstFault, Reads}
 use Rattle.dn_instance.specs.declared.refusal.Refusal.{Refusal}
 use Rattle.dn_instance.specs.declared.refusal.Refusal.TheVariants.{Text, Memory, Read, Endless, CountTooLarge}
 use Rattle.dn_canon.specs.CanonTexts.{IsTooLarge}
-use Rattle.dn_files.specs.declared.files.FilesFault.{FilesFault}
-use Rattle.dn_files.specs.declared.files.FilesFault.TheVariants as Files
+use Rattle.dn_host.specs.declared.files.FilesFault.{FilesFault}
+use Rattle.dn_host.specs.declared.files.FilesFault.TheVariants as Files
 
 -- a text that a run asked for: its name; the bytes behind the name before the run, if they are known; why the files did
 -- not hand it out, or `None` if they did; and what holds if it is refused for a reason that is not in its bytes

@@ -9,7 +9,7 @@ use crate::texts::{copy_named, read_named};
 use dn_bundle::Form;
 use dn_canon::write_canon;
 use dn_command::Command;
-use dn_files::Files;
+use dn_host::Files;
 use dn_instance::check_companion;
 use dn_report::put_shown;
 use dn_sink::Sink;

@@ -8,9 +8,8 @@ ghost use Rattle.dn_run.specs.Statuses.{RanPlain};
 ghost use Rattle.dn_run.specs.Words.{Ran};
 
 use crate::runs::{refuse_words, run};
-use dn_files::Files;
-use dn_host::Opener;
-use dn_host::files::{OpenedFiles, OpenedSource};
+use dn_host::opened_files::{OpenedFiles, OpenedSource};
+use dn_host::{Files, Opener};
 use dn_instance::Refusal;
 use dn_line::Source;
 use dn_report::put_fault_line;

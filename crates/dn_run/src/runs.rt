@@ -8,7 +8,7 @@ ghost use Rattle.dn_run.specs.Words.{PrintsText, Ran, bad_command_line};
 use crate::commands::perform;
 use crate::stop::Stop;
 use dn_command::{Request, request_of};
-use dn_files::Files;
+use dn_host::Files;
 use dn_instance::Refusal;
 use dn_report::put_fault_line;
 use dn_sink::{Sink, put_and_flush};

@@ -7,7 +7,7 @@ ghost use Rattle.dn_run.specs.Texts.{IsRefusedText, unopened};
 ghost use Rattle.dn_run.specs.State.TextReads.{IsCopied, IsRead, StopsAs};
 
 use crate::stop::{Stop, or_stop};
-use dn_files::{Files, FilesFault};
+use dn_host::{Files, FilesFault};
 use dn_instance::{Held, Refusal, read_from, read_keep};
 use std::alloc::Global;
 

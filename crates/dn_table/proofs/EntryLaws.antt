@@ -6,21 +6,21 @@ use Rattle.std.proofs.Math.Bool.{or-true}
 use Rattle.std.proofs.lemmas.Map.Keys.{IsDistinct-head, IsDistinct-tail}
 use Rattle.std.specs.List.{AllByRecursion, list_any, IsDistinct}
 use Rattle.std.specs.Map.{keys_of, lookup}
-use Rattle.dn_arc.specs.State.Bundles.{AreSizes, IsKind, listed_of}
-use Rattle.dn_arc.specs.Canonical.{has_low}
-use Rattle.dn_arc.specs.Capacities.{total_cap}
-use Rattle.dn_arc.specs.Entries.{distinct, has_room, length_entries, cap_entries, cost_entries}
-use Rattle.dn_arc.specs.State.Sizes.{ArcSizes}
-use Rattle.dn_arc.specs.declared.arc.LengthArc.{LengthArc}
-use Rattle.dn_arc.specs.declared.arc.CapArc.{CapArc}
-use Rattle.dn_arc.specs.declared.arc.CostArc.{CostArc}
-use Rattle.dn_arc.specs.Kinds.{ArcKind}
-use Rattle.dn_arc.specs.declared.arc.Form.TheVariants.{One}
+use Rattle.dn_arc_theory.specs.State.Bundles.{AreSizes, IsKind, listed_of}
+use Rattle.dn_arc_theory.specs.Canonical.{has_low}
+use Rattle.dn_arc_theory.specs.Capacities.{total_cap}
+use Rattle.dn_arc_theory.specs.Entries.{distinct, has_room, length_entries, cap_entries, cost_entries}
+use Rattle.dn_arc_theory.specs.State.Sizes.{ArcSizes}
+use Rattle.dn_arc_theory.specs.declared.arc.LengthArc.{LengthArc}
+use Rattle.dn_arc_theory.specs.declared.arc.CapArc.{CapArc}
+use Rattle.dn_arc_theory.specs.declared.arc.CostArc.{CostArc}
+use Rattle.dn_arc_theory.specs.Kinds.{ArcKind}
+use Rattle.dn_arc_theory.specs.declared.arc.Form.TheVariants.{One}
 use Rattle.dn_table.specs.GraphEntries.{graph_entries}
-use Rattle.dn_arc.specs.Pairs.{bundle, same_pair}
+use Rattle.dn_arc_theory.specs.Pairs.{bundle, same_pair}
 use Rattle.dn_table.specs.State.Tables.{listed_at, TableLists, AreArcs}
 use Rattle.std.proofs.lemmas.List.{map-append}
-use Rattle.dn_arc.proofs.PairLaws.{pair_is, pair_self, bundle_push}
+use Rattle.dn_arc_theory.proofs.PairLaws.{pair_is, pair_self, bundle_push}
 use Rattle.dn_table.proofs.PairLaws.{other_pair}
 
 abbrev pub Pair : Type 0

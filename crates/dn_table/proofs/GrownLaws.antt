@@ -8,12 +8,12 @@ use Rattle.std.proofs.lemmas.List.{set-get_or}
 use Rattle.std.proofs.lemmas.Map.Entries.{lookup_from_place, length-keys_of}
 use Rattle.std.proofs.lemmas.Map.Made.{is_some-lookup}
 use Rattle.std.proofs.lemmas.Option.{slice_get-get_or}
-use Rattle.dn_arc.specs.Kinds.{ArcKind}
-use Rattle.dn_arc.specs.Pairs.{pair_cmp, same_pair}
+use Rattle.dn_arc_theory.specs.Kinds.{ArcKind}
+use Rattle.dn_arc_theory.specs.Pairs.{pair_cmp, same_pair}
 use Rattle.dn_table.specs.State.Tables.{Grows, TableStandsFor, TableLists}
 use Rattle.dn_table.proofs.PairLaws.{other_pair}
 use Rattle.dn_table.proofs.TableLaws.{grows_there}
-use Rattle.dn_arc.proofs.PairLaws.{pair_equiv}
+use Rattle.dn_arc_theory.proofs.PairLaws.{pair_equiv}
 use Rattle.pair_index.proofs.SortedLaws.{key_of_entry}
 use Rattle.pair_index.proofs.EntryLaws.{keys_kept}
 use Rattle.pair_index.specs.State.Positions.{key_at}
@@ -63,7 +63,7 @@ module _ {X : Type 0} (p : ℤ × ℤ) (es : List ((ℤ × ℤ) × X)) where
     placed = rw (← is) at (slice_get-get_or es i e inside)
 
     pub key_here : e.0 ≡ p
-    key_here = sym (key_of_entry false es i e placed) ∙ at
+    key_here = sym (key_of_entry es i e placed) ∙ at
 
     -- the look-up of the entry at a position
     pub found_at : lookup (same_pair p) es ≡ Some e.1

@@ -2,14 +2,14 @@
 use Rattle.std.proofs.Common.{◌≡◌, ℕ, zero, suc, ℤ, List, [], ◌∷◌, ◌++◌, None, refl, arith, inl, inr}
 use Rattle.std.specs.List.{AllByRecursion}
 use Rattle.std.specs.Map.{lookup}
-use Rattle.dn_arc.specs.State.Sizes.{ArcSizes}
-use Rattle.dn_arc.specs.Kinds.{ArcKind}
-use Rattle.dn_arc.specs.State.CanonArcs.{NeedsMore}
-use Rattle.dn_arc.specs.declared.arc.Form.TheVariants.{One}
-use Rattle.dn_arc.specs.State.Bundles.{AreSizes, IsKind}
-use Rattle.dn_arc.specs.Pairs.{bundle, same_pair}
-use Rattle.dn_arc.proofs.OrdersLaws.{same_push}
-use Rattle.dn_kind.proofs.BundleLaws.{all_end}
+use Rattle.dn_arc_theory.specs.State.Sizes.{ArcSizes}
+use Rattle.dn_arc_theory.specs.Kinds.{ArcKind}
+use Rattle.dn_arc_theory.specs.State.CanonArcs.{NeedsMore}
+use Rattle.dn_arc_theory.specs.declared.arc.Form.TheVariants.{One}
+use Rattle.dn_arc_theory.specs.State.Bundles.{AreSizes, IsKind}
+use Rattle.dn_arc_theory.specs.Pairs.{bundle, same_pair}
+use Rattle.dn_arc_theory.proofs.OrdersLaws.{same_push}
+use Rattle.dn_bundle_trait.proofs.BundleLaws.{all_end}
 use Rattle.dn_table.specs.State.Tables.{listed_at, TableLists, AreArcs, GraphNeedsMore}
 use Rattle.dn_table.proofs.EntryLaws.{bundle_arcs, graph_grows}
 

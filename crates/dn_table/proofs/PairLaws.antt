@@ -2,8 +2,8 @@
 use Rattle.std.proofs.Common.{inl, inr, ◌≡◌, ℤ, false, to_z, of_z, w64, FitsSigned}
 use Rattle.std.proofs.lemmas.Bool.{cases_Bool}
 use Rattle.std.proofs.lemmas.Int.{to_z-of_z}
-use Rattle.dn_arc.specs.Pairs.{same_pair}
-use Rattle.dn_arc.proofs.PairLaws.{pair_is, pair_self}
+use Rattle.dn_arc_theory.specs.Pairs.{same_pair}
+use Rattle.dn_arc_theory.proofs.PairLaws.{pair_is, pair_self}
 
 -- a key does not change when a call passes it
 pub key_is : (u v : ℤ) → FitsSigned w64 u → FitsSigned w64 v → (P : ℤ × ℤ → Type 0)

@@ -2,10 +2,10 @@
 use Rattle.std.proofs.Common.{◌≡◌, ◌↔◌, ℤ, ◌≤ℤ◌, ◌<ℤ◌, List, [], ◌∷◌, ◌++◌, Option, Some, None, false, refl, sym, ap, ◌∙◌, arith}
 use Rattle.std.specs.Map.{lookup}
 use Rattle.std.proofs.lemmas.Int.{ints}
-use Rattle.dn_arc.specs.Kinds.{ArcKind}
-use Rattle.dn_arc.specs.State.Equivalences.{IsMeaning}
-use Rattle.dn_arc.specs.Pairs.{same_pair}
-use Rattle.dn_arc.specs.State.Bundles.{listed_of}
+use Rattle.dn_arc_theory.specs.Kinds.{ArcKind}
+use Rattle.dn_arc_theory.specs.State.Equivalences.{IsMeaning}
+use Rattle.dn_arc_theory.specs.Pairs.{same_pair}
+use Rattle.dn_arc_theory.specs.State.Bundles.{listed_of}
 use Rattle.dn_table.specs.State.Tables.{listed_at, Grows}
 
 module _ {B Arc : Type 0} (kind : ArcKind Arc) (lists : B → List Arc) (m n : List ((ℤ × ℤ) × B)) (pair : ℤ × ℤ)

@@ -2,12 +2,12 @@
 ghost use Rattle.std.specs.Prelude.{◌≡◌, ◌<◌, ◌≤◌, ◌^◌, length, MatchOption};
 ghost use Rattle.std.specs.List.{IsDistinct};
 ghost use Rattle.std.specs.Map.{keys_of};
-ghost use Rattle.dn_arc.specs.declared.arc.Form.{Form};
-ghost use Rattle.dn_arc.specs.Pairs.{same_pair};
+ghost use Rattle.dn_arc_theory.specs.declared.arc.Form.{Form};
+ghost use Rattle.dn_arc_theory.specs.Pairs.{same_pair};
 ghost use Rattle.dn_table.specs.State.ListedEntries.{entries_listed};
 ghost use Rattle.dn_table.specs.State.Tables.{CountsBelow, CountsEntries, entries_in};
 
-use dn_kind::{Bundle, Form};
+use dn_bundle_trait::{Bundle, Form};
 
 // Returns how many entries the bundles of different pairs make, or `u64::MAX` if this does not fit 64 bits.
 pub(crate) fn bundle_entries<B: Bundle>(entries: &[((i64, i64), B)]) -> u64

@@ -4,13 +4,13 @@ ghost use Rattle.std.specs.Option.{option_copied};
 ghost use Rattle.std.specs.Iterator.{YieldsFirstBy, item_count};
 ghost use Rattle.std.specs.List.Sorted.{IsStrictlySortedBy};
 ghost use Rattle.std.specs.Map.{keys_of, lookup};
-ghost use Rattle.dn_arc.specs.declared.arc.Form.{Form};
-ghost use Rattle.dn_arc.specs.Pairs.{pair_cmp, same_pair};
+ghost use Rattle.dn_arc_theory.specs.declared.arc.Form.{Form};
+ghost use Rattle.dn_arc_theory.specs.Pairs.{pair_cmp, same_pair};
 ghost use Rattle.dn_table.specs.State.ListedEntries.{entries_listed};
 ghost use Rattle.dn_table.specs.State.Tables.{CountsBelow, CountsEntries, entry_of};
 
 use crate::entry_sum::{bundle_entries, count_arcs};
-use dn_kind::{Bundle, Form};
+use dn_bundle_trait::{Bundle, Form};
 use pair_index::position_among;
 use std::marker::Model;
 
@@ -41,7 +41,7 @@ impl<B: Bundle> Model for Table<B> {
     ghost use Rattle.std.specs.Prelude.{ℤ, List};
     ghost use Rattle.std.specs.List.Sorted.{IsStrictlySortedBy};
     ghost use Rattle.std.specs.Map.{keys_of};
-    ghost use Rattle.dn_arc.specs.Pairs.{pair_cmp};
+    ghost use Rattle.dn_arc_theory.specs.Pairs.{pair_cmp};
 
     ghost Value = { List ((ℤ × ℤ) × B) };
 

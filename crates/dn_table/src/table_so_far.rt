@@ -5,13 +5,13 @@ ghost use Rattle.std.specs.List.Sorted.{IsPermutation, IsStrictlySortedBy};
 ghost use Rattle.std.specs.Map.{keys_of, lookup};
 ghost use Rattle.pair_index.specs.State.Indexed.{Indexes};
 ghost use Rattle.pair_index.specs.State.Positions.{IsPosition};
-ghost use Rattle.dn_arc.specs.declared.arc.Form.{Form};
-ghost use Rattle.dn_arc.specs.Pairs.{pair_cmp, same_pair};
+ghost use Rattle.dn_arc_theory.specs.declared.arc.Form.{Form};
+ghost use Rattle.dn_arc_theory.specs.Pairs.{pair_cmp, same_pair};
 ghost use Rattle.dn_table.specs.State.Tables.{Adds, CountsEntries, IsSameElsewhere, IsTooMuch, WidensAt};
 
 use crate::entry_sum::bundle_entries;
 use crate::table::Table;
-use dn_kind::{Bundle, BundleFault, Form};
+use dn_bundle_trait::{Bundle, BundleFault, Form};
 use pair_index::{AHEAD, PairIndex, is_pair};
 use std::alloc::{AllocError, Global};
 use std::marker::Model;

@@ -156,15 +156,16 @@ const SCATTERING: i64 = 0x1E37_79B9_7F4A_7C15;
 // How the pairs of groups are found at the end: the size of the groups, and of what numbers their tails and their heads
 // are multiples. Groups of more than 24 entries are linked, unless their heads rise.
 const GROUPS: [(i64, i64, i64, &str); 9] = [
-    // Tails that rise, and that fall.
+    // Tails that rise.
     (1, 1, 5, "in order"),
-    (1, -1, 4, "in order"),
-    // One tail, and groups of few and of many heads, whose tails rise or fall.
+    // One tail, and groups of few and of many heads, whose tails rise.
     (150, 1, -1, "in order"),
     (150, 1, SCATTERING, "in order"),
     (10, 1, SCATTERING, "in order"),
     (40, 1, SCATTERING, "in order"),
-    (40, -1, SCATTERING, "in order"),
+    // Tails that fall, one by one and in groups.
+    (1, -1, 4, "scattered"),
+    (40, -1, SCATTERING, "scattered"),
     // Tails that rise and fall, near to each other and far apart.
     (1, SCATTERING, 1, "scattered"),
     (1, i64::MIN + 1, i64::MAX - 3, "scattered"),

@@ -3,7 +3,7 @@
 //! to `run_on`.
 #![tactic(auto)]
 
-use dn_host::files::OpenedFiles;
+use dn_host::opened_files::OpenedFiles;
 use dn_host::{HostDevice, HostOpener, Retried, out_of, words_of};
 use dn_run::run_on;
 use dn_sink::ToWrite;

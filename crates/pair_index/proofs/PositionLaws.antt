@@ -4,8 +4,8 @@ use Rattle.std.specs.List.{list_any}
 use Rattle.std.proofs.lemmas.Bool.{cases_Bool, false≢true}
 use Rattle.std.proofs.lemmas.Map.Keys.{any_passes_from_place}
 use Rattle.std.proofs.lemmas.Option.{slice_get-get_or}
-use Rattle.dn_arc.specs.Pairs.{same_pair}
-use Rattle.dn_arc.proofs.PairLaws.{pair_is, pair_self}
+use Rattle.dn_arc_theory.specs.Pairs.{same_pair}
+use Rattle.dn_arc_theory.proofs.PairLaws.{pair_is, pair_self}
 use Rattle.pair_index.specs.State.Positions.{key_at}
 
 -- a pair that is at no position is not among the keys

@@ -1,9 +1,9 @@
 -- Runs: where a pair is, and one more pair.
-use Rattle.std.proofs.Common.{◌≡◌, ℕ, ◌+◌, ◌-◌, ◌<◌, ◌≤◌, ℤ, pos, List, [], ◌∷◌, ◌++◌, length, take, drop, Bool, true, false, ◌⊎◌, inl, inr, Option, Some, None, option_map, refl, sym, ap, ◌∙◌, arith, Ordering, Less, Equal, Greater}
+use Rattle.std.proofs.Common.{◌≡◌, ℕ, ◌+◌, ◌-◌, ◌<◌, ◌≤◌, ℤ, pos, List, [], ◌∷◌, ◌++◌, length, take, drop, ◌⊎◌, inl, inr, Option, Some, None, option_map, refl, sym, ap, ◌∙◌, arith, Ordering, Less, Equal, Greater}
 use Rattle.std.specs.List.{All, AllByRecursion, IsDistinct, slice_get}
 use Rattle.std.specs.List.Sorted.{IsStrictlySortedBy, IsPermutation}
 use Rattle.std.specs.Map.{keys_of}
-use Rattle.std.specs.Ordering.{int_cmp, ordering_reverse, ordering_then}
+use Rattle.std.specs.Ordering.{int_cmp, ordering_then}
 use Rattle.std.proofs.lemmas.Bool.{cases_lt}
 use Rattle.std.proofs.lemmas.List.{take_all, drop_all, length_push, get_or-take, get_or-drop, length-take-le, length-drop, take-append-le, drop-append-le, take-append-drop, take-map, drop-map, append-nil, map-append}
 use Rattle.std.proofs.lemmas.Map.Entries.{length-keys_of}
@@ -11,18 +11,18 @@ use Rattle.std.proofs.lemmas.Map.Views.{All-map-IsPermutation}
 use Rattle.std.proofs.lemmas.Map.Keys.{Less-from_sorted, IsDistinct-tail}
 use Rattle.std.proofs.lemmas.Map.Lookups.{exact_signed}
 use Rattle.std.proofs.lemmas.Option.{slice_get_within}
-use Rattle.dn_arc.specs.Pairs.{pair_cmp, same_pair}
-use Rattle.dn_arc.proofs.PairLaws.{pair_total}
+use Rattle.dn_arc_theory.specs.Pairs.{pair_cmp, same_pair}
+use Rattle.dn_arc_theory.proofs.PairLaws.{pair_total}
 use Rattle.pair_index.specs.State.Chained.{IsChained}
 use Rattle.pair_index.specs.State.Positions.{key_at, IsPosition, IsPositionFrom}
 use Rattle.pair_index.specs.State.Runs.{IsGroup, ShowsGroup}
-use Rattle.pair_index.specs.State.Sorted.{AreSorted, order_of}
+use Rattle.pair_index.specs.State.Sorted.{AreSorted}
 use Rattle.pair_index.specs.declared.chains.Chains.{Chains}
 use Rattle.pair_index.specs.declared.runs.Group.{Group}
 use Rattle.pair_index.specs.declared.runs.Group.TheVariants.{Sorted, Few, Linked}
 use Rattle.pair_index.proofs.ChainLaws.{key_kept, key_new}
 use Rattle.pair_index.proofs.PositionLaws.{none_from_positions, fresh_at}
-use Rattle.pair_index.proofs.SortedLaws.{all_keys, key_of_entry, order_is, order_total, less_apart, sorted_append, sorted_more}
+use Rattle.pair_index.proofs.SortedLaws.{all_keys, key_of_entry, less_apart, sorted_append, sorted_more}
 
 -- an ordering by tails that decides
 by_tails : (o rest : Ordering) → (o ≡ Equal → ⊥) → ordering_then o rest ≡ Less → o ≡ Less
@@ -37,37 +37,32 @@ tails_ascend p q r s l apart rp sq =
     let less = by_tails (int_cmp p.0 q.0) (int_cmp p.1 q.1) (λ e. apart (exact_signed p.0 q.0 e)) l in
     rw (rp, sq, less)
 
-pub tails_order : (falls : Bool) (p q r s : ℤ × ℤ) → order_of falls p q ≡ Less → (p.0 ≡ q.0 → ⊥) → r.0 ≡ p.0
-    → s.0 ≡ q.0 → order_of falls r s ≡ Less
-tails_order false p q r s l apart rp sq = tails_ascend p q r s l apart rp sq
-tails_order true p q r s l apart rp sq = tails_ascend q p s r l (λ e. apart (sym e)) sq rp
-
 -- the first of two lists of sorted keys, and the second of two lists of different keys
 all_left : (P : ℤ × ℤ → Type 0) (xs ys : List (ℤ × ℤ)) → AllByRecursion P (xs ++ ys) → AllByRecursion P xs
 all_left P [] ys all = tt
 all_left P (x ∷ xs) ys all = (all.0, all_left P xs ys all.1)
 
-sorted_left : (falls : Bool) (xs ys : List (ℤ × ℤ)) → AreSorted falls (xs ++ ys) → AreSorted falls xs
+sorted_left : (xs ys : List (ℤ × ℤ)) → AreSorted (xs ++ ys) → AreSorted xs
 unfolding IsStrictlySortedBy
-sorted_left falls [] ys up = tt
-sorted_left falls (x ∷ xs) ys up = (all_left (λ y. order_of falls x y ≡ Less) xs ys up.0, sorted_left falls xs ys up.1)
+sorted_left [] ys up = tt
+sorted_left (x ∷ xs) ys up = (all_left (λ y. pair_cmp x y ≡ Less) xs ys up.0, sorted_left xs ys up.1)
 
 apart_right : (xs ys : List (ℤ × ℤ)) → IsDistinct same_pair (xs ++ ys) → IsDistinct same_pair ys
 apart_right [] ys apart = apart
 apart_right (x ∷ xs) ys apart = apart_right xs ys (IsDistinct-tail same_pair x (xs ++ ys) apart)
 
 -- unless all keys are sorted, there is a group
-pub group_unless_sorted : (falls : Bool) (keys : List (ℤ × ℤ)) (begin : ℕ) (group : Group)
-    → (group ≡ Sorted → ⊥) → ShowsGroup falls begin group keys → IsGroup falls keys begin
-group_unless_sorted falls keys begin Sorted not shows = absurd (not refl)
-group_unless_sorted falls keys begin Few not shows = shows
-group_unless_sorted falls keys begin (Linked chains) not shows = shows.0
+pub group_unless_sorted : (keys : List (ℤ × ℤ)) (begin : ℕ) (group : Group)
+    → (group ≡ Sorted → ⊥) → ShowsGroup begin group keys → IsGroup keys begin
+group_unless_sorted keys begin Sorted not shows = absurd (not refl)
+group_unless_sorted keys begin Few not shows = shows
+group_unless_sorted keys begin (Linked chains) not shows = shows.0
 
-module _ (falls : Bool) (keys : List (ℤ × ℤ)) (begin : ℕ) (group : IsGroup falls keys begin) (p : ℤ × ℤ) where
+module _ (keys : List (ℤ × ℤ)) (begin : ℕ) (group : IsGroup keys begin) (p : ℤ × ℤ) where
   -- a pair of the group's tail is in the group or nowhere
   pub among_group : p.0 ≡ group.tail → (o : Option ℕ) → IsPositionFrom keys begin p o → IsPosition keys p o
   among_group e None none = none_from_positions p keys (λ i lt f. elim (cases_lt i begin) [
-    | inl l ↦ less_apart falls (key_at keys i) p (group.before i p l e) f
+    | inl l ↦ less_apart (key_at keys i) p (group.before i p l e) f
     | inr l ↦ none i l lt f
   ])
   among_group e (Some i) is = is
@@ -93,7 +88,7 @@ module _ (falls : Bool) (keys : List (ℤ × ℤ)) (begin : ℕ) (group : IsGrou
   first_tail = group.one_tail begin (omega arith) group.inside
 
   -- the keys remain a group with a pair of its tail at the end
-  pub group_more : p.0 ≡ group.tail → IsGroup falls (keys ++ p ∷ []) begin
+  pub group_more : p.0 ≡ group.tail → IsGroup (keys ++ p ∷ []) begin
   group_more e = record {
     tail = group.tail;
     inside = omega (arith, length_push keys p);
@@ -120,22 +115,22 @@ position_on keys begin p None within none = λ i from lt f.
 position_on keys begin p (Some i) within is =
     (omega (arith, length-drop begin keys), rw (get_or-drop begin keys i (pos 0, pos 0)) at is.1)
 
-module _ (falls : Bool) (keys : List (ℤ × ℤ)) where
+module _ (keys : List (ℤ × ℤ)) where
   abbrev last : ℤ × ℤ
   last = key_at keys (length keys - 1)
 
   -- sorted keys end with a group
-  pub opened : (begin : ℕ) (t : ℤ) → AreSorted falls keys → 0 < length keys → begin ≤ length keys
+  pub opened : (begin : ℕ) (t : ℤ) → AreSorted keys → 0 < length keys → begin ≤ length keys
       → ((i : ℕ) → begin ≤ i → i < length keys → (key_at keys i).0 ≡ t)
-      → (0 < begin → (key_at keys (begin - 1)).0 ≡ t → ⊥) → last.0 ≡ t → IsGroup falls keys begin
+      → (0 < begin → (key_at keys (begin - 1)).0 ≡ t → ⊥) → last.0 ≡ t → IsGroup keys begin
   opened begin t up some within from past e = record {
     tail = t;
     inside = inside;
     one_tail = from;
-    sorted = sorted_left falls (take begin keys) (drop begin keys) (rw (take-append-drop begin keys) up);
+    sorted = sorted_left (take begin keys) (drop begin keys) (rw (take-append-drop begin keys) up);
     before = λ i q l f. elim (cases_lt (i + 1) begin) [
-      | inl m ↦ (order_total falls).trans (key_at keys i) (key_at keys (begin - 1)) q
-          (Less-from_sorted (order_of falls) keys i (begin - 1) (pos 0, pos 0) up (omega arith) (omega arith))
+      | inl m ↦ pair_total.trans (key_at keys i) (key_at keys (begin - 1)) q
+          (Less-from_sorted pair_cmp keys i (begin - 1) (pos 0, pos 0) up (omega arith) (omega arith))
           (at_end q (omega arith) f)
       | inr m ↦ (let at : i ≡ begin - 1 = omega arith in rw at (at_end q (omega arith) f))
     ];
@@ -147,91 +142,40 @@ module _ (falls : Bool) (keys : List (ℤ × ℤ)) where
         | inr l ↦ (let at : begin ≡ length keys = omega arith in absurd (past (omega arith) (rw at e)))
       ]
 
-      at_end : (q : ℤ × ℤ) → 0 < begin → q.0 ≡ t → order_of falls (key_at keys (begin - 1)) q ≡ Less
+      at_end : (q : ℤ × ℤ) → 0 < begin → q.0 ≡ t → pair_cmp (key_at keys (begin - 1)) q ≡ Less
       at_end q l f =
-          tails_order falls (key_at keys (begin - 1)) last (key_at keys (begin - 1)) q
-          (Less-from_sorted (order_of falls) keys (begin - 1) (length keys - 1) (pos 0, pos 0) up
+          tails_ascend (key_at keys (begin - 1)) last (key_at keys (begin - 1)) q
+          (Less-from_sorted pair_cmp keys (begin - 1) (length keys - 1) (pos 0, pos 0) up
           (omega (arith, inside)) (omega arith))
           (λ g. past l (g ∙ e)) refl (f ∙ sym e)
 
   -- each key is at the end or before the last one
-  up_to_last : AreSorted falls keys → (i : ℕ) → i < length keys
-      → (key_at keys i ≡ last) ⊎ (order_of falls (key_at keys i) last ≡ Less)
+  up_to_last : AreSorted keys → (i : ℕ) → i < length keys
+      → (key_at keys i ≡ last) ⊎ (pair_cmp (key_at keys i) last ≡ Less)
   up_to_last up i lt = elim (cases_lt i (length keys - 1)) [
-    | inl l ↦ inr (Less-from_sorted (order_of falls) keys i (length keys - 1) (pos 0, pos 0) up l (omega arith))
+    | inl l ↦ inr (Less-from_sorted pair_cmp keys i (length keys - 1) (pos 0, pos 0) up l (omega arith))
     | inr l ↦ inl (ap (key_at keys) (let at : i ≡ length keys - 1 = omega arith in at))
   ]
 
-  module _ (p : ℤ × ℤ) (apart : last.0 ≡ p.0 → ⊥) (below : order_of falls last p ≡ Less) where
-    grouped_below : (begin : ℕ) → IsGroup falls keys begin → (i : ℕ) → i < length keys
-        → order_of falls (key_at keys i) p ≡ Less
+  module _ (p : ℤ × ℤ) (apart : last.0 ≡ p.0 → ⊥) (below : pair_cmp last p ≡ Less) where
+    grouped_below : (begin : ℕ) → IsGroup keys begin → (i : ℕ) → i < length keys
+        → pair_cmp (key_at keys i) p ≡ Less
     grouped_below begin group i lt =
-        let end = end_tail falls keys begin group p in
+        let end = end_tail keys begin group p in
         elim (cases_lt i begin) [
-          | inl l ↦ (order_total falls).trans (key_at keys i) last p (group.before i last l end) below
-          | inr l ↦ tails_order falls last p (key_at keys i) p below apart (group.one_tail i l lt ∙ sym end) refl
+          | inl l ↦ pair_total.trans (key_at keys i) last p (group.before i last l end) below
+          | inr l ↦ tails_ascend last p (key_at keys i) p below apart (group.one_tail i l lt ∙ sym end) refl
         ]
 
     -- if a pair of another tail is after the last key, it is after each key
-    pub all_below : (begin : ℕ) (group : Group) → ShowsGroup falls begin group keys → (i : ℕ) → i < length keys
-        → order_of falls (key_at keys i) p ≡ Less
+    pub all_below : (begin : ℕ) (group : Group) → ShowsGroup begin group keys → (i : ℕ) → i < length keys
+        → pair_cmp (key_at keys i) p ≡ Less
     all_below begin Sorted up i lt = elim (up_to_last up i lt) [
       | inl e ↦ rw e below
-      | inr l ↦ (order_total falls).trans (key_at keys i) last p l below
+      | inr l ↦ pair_total.trans (key_at keys i) last p l below
     ]
     all_below begin Few group i lt = grouped_below begin group i lt
     all_below begin (Linked chains) group i lt = grouped_below begin group.0 i lt
-
--- ascending runs whose first and last key have one tail
-module _ (keys : List (ℤ × ℤ)) (some : 0 < length keys) (same : (key_at keys 0).0 ≡ (last false keys).0) where
-  grouped_tail : (begin : ℕ) → IsGroup false keys begin → (i : ℕ) → i < length keys
-      → (key_at keys i).0 ≡ (last false keys).0
-  grouped_tail begin group i lt =
-      let end = end_tail false keys begin group (pos 0, pos 0) in
-      let first = key_at keys 0 in
-      elim (cases_lt 0 begin) [
-        | inl l ↦ absurd (less_apart false first first (group.before 0 first l (same ∙ end)) refl)
-        | inr l ↦ group.one_tail i (omega arith) lt ∙ sym end
-      ]
-
-  between : AreSorted false keys → (i : ℕ) → i < length keys → (0 < i) ⊎ (i ≤ 0)
-      → (key_at keys i).0 ≡ (last false keys).0
-  between up i lt (inr l) = let at : i ≡ 0 = omega arith in rw at same
-  between up i lt (inl l) = elim (up_to_last false keys up i lt) [
-    | inl e ↦ ap (λ (k : ℤ × ℤ). k.0) e
-    | inr m ↦ by_tail (int_cmp (key_at keys i).0 (last false keys).0) refl m
-  ]
-    where
-      first : pair_cmp (key_at keys 0) (key_at keys i) ≡ Less
-      first = Less-from_sorted (order_of false) keys 0 i (pos 0, pos 0) up l lt
-
-      by_tail : (o : Ordering) → int_cmp (key_at keys i).0 (last false keys).0 ≡ o
-          → pair_cmp (key_at keys i) (last false keys) ≡ Less → (key_at keys i).0 ≡ (last false keys).0
-      by_tail Equal e m = exact_signed (key_at keys i).0 (last false keys).0 e
-      by_tail Greater e m = cc (rw e at m)
-      by_tail Less e m =
-          let down : pair_cmp (key_at keys i) (key_at keys 0) ≡ Less = rw (same, e) in
-          absurd (less_apart false (key_at keys 0) (key_at keys 0)
-          (pair_total.trans (key_at keys 0) (key_at keys i) (key_at keys 0) first down) refl)
-
-  one_tail : (begin : ℕ) (group : Group) → ShowsGroup false begin group keys → (i : ℕ) → i < length keys
-      → (key_at keys i).0 ≡ (last false keys).0
-  one_tail begin Sorted up i lt = between up i lt (cases_lt 0 i)
-  one_tail begin Few group i lt = grouped_tail begin group i lt
-  one_tail begin (Linked chains) group i lt = grouped_tail begin group.0 i lt
-
-  -- if a pair of another tail is not after the last key, each key is after it
-  pub all_above : (p : ℤ × ℤ) → ((last false keys).0 ≡ p.0 → ⊥) → (pair_cmp (last false keys) p ≡ Less → ⊥)
-      → (begin : ℕ) (group : Group) → ShowsGroup false begin group keys → (i : ℕ) → i < length keys
-      → order_of true (key_at keys i) p ≡ Less
-  all_above p apart not begin group shows i lt =
-      tails_order true (last false keys) p (key_at keys i) p (by_order (pair_cmp (last false keys) p) refl) apart
-      (one_tail begin group shows i lt) refl
-    where
-      by_order : (o : Ordering) → pair_cmp (last false keys) p ≡ o → pair_cmp p (last false keys) ≡ Less
-      by_order Less e = absurd (not e)
-      by_order Equal e = absurd (apart (ap (λ (k : ℤ × ℤ). k.0) (order_is false (last false keys) p e)))
-      by_order Greater e = pair_total.antisymm p (last false keys) ∙ ap ordering_reverse e
 
 module _ {X : Type 0} where
   -- the entries from a position on, in the form of a slice
@@ -255,11 +199,11 @@ module _ {X : Type 0} where
   rest_of begin es = drop_all (length es - begin) (drop begin es) (omega (arith, length-drop begin es))
 
   -- with its group sorted, the whole list is sorted
-  pub closed : (falls : Bool) (begin : ℕ) (es ys : List ((ℤ × ℤ) × X)) → IsGroup falls (keys_of es) begin
-      → IsPermutation (group_of begin es) ys → AreSorted falls (keys_of ys)
-      → AreSorted falls (keys_of (take begin es ++ (ys ++ drop (length es - begin) (drop begin es))))
-  closed falls begin es ys group moved up =
-      rw keys_are (sorted_append falls (take begin (keys_of es)) (keys_of ys) group.sorted up by_key)
+  pub closed : (begin : ℕ) (es ys : List ((ℤ × ℤ) × X)) → IsGroup (keys_of es) begin
+      → IsPermutation (group_of begin es) ys → AreSorted (keys_of ys)
+      → AreSorted (keys_of (take begin es ++ (ys ++ drop (length es - begin) (drop begin es))))
+  closed begin es ys group moved up =
+      rw keys_are (sorted_append (take begin (keys_of es)) (keys_of ys) group.sorted up by_key)
     where
       keys_are : keys_of (take begin es ++ (ys ++ drop (length es - begin) (drop begin es)))
           ≡ take begin (keys_of es) ++ keys_of ys
@@ -275,7 +219,7 @@ module _ {X : Type 0} where
           (group.one_tail (begin + i) (omega arith) (omega (arith, length-drop begin (keys_of es)))))))
 
       by_key : (i j : ℕ) → i < length (take begin (keys_of es)) → j < length (keys_of ys)
-          → order_of falls (key_at (take begin (keys_of es)) i) (key_at (keys_of ys) j) ≡ Less
+          → pair_cmp (key_at (take begin (keys_of es)) i) (key_at (keys_of ys) j) ≡ Less
       by_key i j lt inside =
           let all = length-take-le begin (keys_of es) (omega arith) in
           let below : i < begin = omega (arith, all) in
@@ -283,30 +227,30 @@ module _ {X : Type 0} where
           (group.before i (key_at (keys_of ys) j) below (tails j (pos 0, pos 0) inside))
 
 -- the entry at the end of a list that has a group
-module _ {X : Type 0} (falls : Bool) (begin : ℕ) (es : List ((ℤ × ℤ) × X)) (e : (ℤ × ℤ) × X) (p : ℤ × ℤ)
+module _ {X : Type 0} (begin : ℕ) (es : List ((ℤ × ℤ) × X)) (e : (ℤ × ℤ) × X) (p : ℤ × ℤ)
     (end : Some e ≡ slice_get es (length es - 1)) where
   -- its pair is the last key
-  pub last_key : e.0 ≡ last falls (keys_of es)
-  last_key = rw (length-keys_of es) (sym (key_of_entry falls es (length es - 1) e (sym end)))
+  pub last_key : e.0 ≡ last (keys_of es)
+  last_key = rw (length-keys_of es) (sym (key_of_entry es (length es - 1) e (sym end)))
 
   pub some_keys : 0 < length (keys_of es)
   some_keys = omega (arith, slice_get_within es (length es - 1) e (sym end), length-keys_of es)
 
-  module _ (group : IsGroup falls (keys_of es) begin) where
+  module _ (group : IsGroup (keys_of es) begin) where
     pub last_tail : e.0.0 ≡ group.tail
     last_tail = rw last_key (group.one_tail (length (keys_of es) - 1) (omega arith) (omega arith))
 
-    pub front_sorted : AreSorted falls (keys_of (take begin es))
+    pub front_sorted : AreSorted (keys_of (take begin es))
     front_sorted = rw (take-map (λ (x : (ℤ × ℤ) × X). x.0) begin es) at group.sorted
 
     pub found_before : (e.0.0 ≡ p.0 → ⊥) → (o : Option ℕ) → IsPosition (keys_of (take begin es)) p o
         → IsPosition (keys_of es) p o
     found_before other o is =
-        among_sorted falls (keys_of es) begin group p (λ f. other (last_tail ∙ sym f)) o
+        among_sorted (keys_of es) begin group p (λ f. other (last_tail ∙ sym f)) o
         (rw (take-map (λ (x : (ℤ × ℤ) × X). x.0) begin es) is)
 
     pub found_among : e.0.0 ≡ p.0 → (o : Option ℕ) → IsPositionFrom (keys_of es) begin p o → IsPosition (keys_of es) p o
-    found_among same o is = among_group falls (keys_of es) begin group p (sym same ∙ last_tail) o is
+    found_among same o is = among_group (keys_of es) begin group p (sym same ∙ last_tail) o is
 
 -- the group, linked by chains
 module _ {X : Type 0} (begin : ℕ) (es : List ((ℤ × ℤ) × X)) where
@@ -318,51 +262,42 @@ module _ {X : Type 0} (begin : ℕ) (es : List ((ℤ × ℤ) × X)) where
       → IsChained chains (drop begin (keys_of es))
   linked_back chains linked = rw (keys_from begin es) at linked
 
-  pub found_linked : (falls : Bool) (p : ℤ × ℤ) (o : Option ℕ) → IsGroup falls (keys_of es) begin
+  pub found_linked : (p : ℤ × ℤ) (o : Option ℕ) → IsGroup (keys_of es) begin
       → IsPosition (keys_of (group_of begin es)) p o
       → IsPositionFrom (keys_of es) begin p (option_map (λ i. begin + i) o)
-  found_linked falls p o group is = position_on (keys_of es) begin p o (omega arith) (rw (keys_from begin es) at is)
+  found_linked p o group is = position_on (keys_of es) begin p o (omega arith) (rw (keys_from begin es) at is)
 
-  pub linked_more : (falls : Bool) (p : ℤ × ℤ) (chains : Chains) → IsGroup falls (keys_of es) begin
+  pub linked_more : (p : ℤ × ℤ) (chains : Chains) → IsGroup (keys_of es) begin
       → IsChained chains (keys_of (group_of begin es) ++ p ∷ [])
       → IsChained chains (drop begin (keys_of es ++ p ∷ []))
-  linked_more falls p chains group linked =
-      linked_on falls (keys_of es) begin group p chains (rw (keys_from begin es) at linked)
+  linked_more p chains group linked =
+      linked_on (keys_of es) begin group p chains (rw (keys_from begin es) at linked)
 
 -- runs of no entries, with one pair
-pub first_run : (falls : Bool) (begin : ℕ) (group : Group) (p : ℤ × ℤ) (keys : List (ℤ × ℤ)) → keys ≡ []
-    → ShowsGroup falls begin group keys → ShowsGroup falls begin group (keys ++ p ∷ [])
+pub first_run : (begin : ℕ) (group : Group) (p : ℤ × ℤ) (keys : List (ℤ × ℤ)) → keys ≡ []
+    → ShowsGroup begin group keys → ShowsGroup begin group (keys ++ p ∷ [])
 unfolding IsStrictlySortedBy
-first_run falls begin Sorted p keys none shows = rw none (tt, tt)
-first_run falls begin Few p keys none shows = absurd (omega (arith, ap length none))
-first_run falls begin (Linked chains) p keys none shows = absurd (omega (arith, ap length none))
+first_run begin Sorted p keys none shows = rw none (tt, tt)
+first_run begin Few p keys none shows = absurd (omega (arith, ap length none))
+first_run begin (Linked chains) p keys none shows = absurd (omega (arith, ap length none))
 
 module _ {X : Type 0} (es fs : List ((ℤ × ℤ) × X)) (e : (ℤ × ℤ) × X) (p : ℤ × ℤ)
     (end : Some e ≡ slice_get es (length es - 1)) (other : e.0.0 ≡ p.0 → ⊥) (moved : IsPermutation es fs) where
-  apart : (falls : Bool) → (last falls (keys_of es)).0 ≡ p.0 → ⊥
-  apart falls f = other (rw (last_key falls 0 es e p end) f)
+  apart : (last (keys_of es)).0 ≡ p.0 → ⊥
+  apart f = other (rw (last_key 0 es e p end) f)
 
   -- the keys are sorted in another order, and a pair comes after each of them
-  moved_with : (falls : Bool) → ((i : ℕ) → i < length (keys_of es) → order_of falls (key_at (keys_of es) i) p ≡ Less)
-      → AreSorted falls (keys_of fs) → AreSorted falls (keys_of fs ++ p ∷ [])
-  moved_with falls each up =
-      sorted_more falls (keys_of fs) p up (λ some.
-      (let all = All-map-IsPermutation (λ (x : (ℤ × ℤ) × X). x.0) (λ k. order_of falls k p ≡ Less) es fs moved
-      (all_keys (λ k. order_of falls k p ≡ Less) (keys_of es) each) in
+  moved_with : ((i : ℕ) → i < length (keys_of es) → pair_cmp (key_at (keys_of es) i) p ≡ Less)
+      → AreSorted (keys_of fs) → AreSorted (keys_of fs ++ p ∷ [])
+  moved_with each up =
+      sorted_more (keys_of fs) p up (λ some.
+      (let all = All-map-IsPermutation (λ (x : (ℤ × ℤ) × X). x.0) (λ k. pair_cmp k p ≡ Less) es fs moved
+      (all_keys (λ k. pair_cmp k p ≡ Less) (keys_of es) each) in
       all (length (keys_of fs) - 1) (pos 0, pos 0) (omega arith)))
 
   -- a pair of another tail after the last key, once the group is sorted
-  pub sorted_after : (falls : Bool) (begin : ℕ) (group : Group) → ShowsGroup falls begin group (keys_of es)
-      → order_of falls e.0 p ≡ Less → AreSorted falls (keys_of fs) → AreSorted falls (keys_of fs ++ p ∷ [])
-  sorted_after falls begin group shows below up =
-      moved_with falls (λ i lt. all_below falls (keys_of es) p (apart falls)
-      (rw (last_key falls 0 es e p end) at below) begin group shows i lt) up
-
-  -- a pair of a lesser tail than the only one, once the entries are descending
-  pub sorted_falling : (first : (ℤ × ℤ) × X) → first.0 ≡ key_at (keys_of es) 0 → first.0.0 ≡ e.0.0 → (begin : ℕ)
-      (group : Group) → ShowsGroup false begin group (keys_of es) → (pair_cmp e.0 p ≡ Less → ⊥)
-      → AreSorted true (keys_of fs) → AreSorted true (keys_of fs ++ p ∷ [])
-  sorted_falling first at same begin group shows not up =
-      moved_with true (λ i lt. all_above (keys_of es) (some_keys false 0 es e p end)
-      (ap (λ (k : ℤ × ℤ). k.0) (sym at) ∙ same ∙ ap (λ (k : ℤ × ℤ). k.0) (last_key false 0 es e p end)) p
-      (apart false) (λ l. not (ap (λ k. pair_cmp k p) (last_key false 0 es e p end) ∙ l)) begin group shows i lt) up
+  pub sorted_after : (begin : ℕ) (group : Group) → ShowsGroup begin group (keys_of es)
+      → pair_cmp e.0 p ≡ Less → AreSorted (keys_of fs) → AreSorted (keys_of fs ++ p ∷ [])
+  sorted_after begin group shows below up =
+      moved_with (λ i lt. all_below (keys_of es) p apart
+      (rw (last_key 0 es e p end) at below) begin group shows i lt) up

@@ -7,10 +7,10 @@ use Rattle.std.proofs.lemmas.Bool.{cases_lt, cases_eq, false≢true}
 use Rattle.std.proofs.lemmas.Int.{ints, by_lt_z}
 use Rattle.std.proofs.lemmas.List.{length_push, length-set, get_or_append_left, get_or_at, get_or-set_same, get_or-set_other, get_or-take, length-take-le, take-map}
 use Rattle.std.proofs.lemmas.Map.Keys.{apart_from_distinct}
-use Rattle.dn_arc.specs.Pairs.{same_pair}
+use Rattle.dn_arc_theory.specs.Pairs.{same_pair}
 use Rattle.pair_index.specs.State.Positions.{key_at}
 use Rattle.pair_index.specs.State.Tailed.{IsAfter, LeadsTo, Links, Sought}
-use Rattle.dn_arc.proofs.PairLaws.{pair_self}
+use Rattle.dn_arc_theory.proofs.PairLaws.{pair_self}
 use Rattle.pair_index.proofs.PositionLaws.{none_from_positions, fresh_at}
 use Rattle.pair_index.proofs.ChainLaws.{key_of_position, key_kept, key_new}
 use Rattle.pair_index.proofs.TailLaws.{least_from, greatest_before, pair_from}

@@ -6,7 +6,7 @@ use Rattle.std.proofs.lemmas.Int.{ints, by_lt_z}
 use Rattle.std.proofs.lemmas.Bool.{cases_lt}
 use Rattle.std.proofs.lemmas.List.{length-append, length-replicate, get_or_append_left, get_or-append_right, get_or-replicate}
 use Rattle.std.proofs.lemmas.List.Sums.{sum_by-cons, sum_by-le-sum_by}
-use Rattle.dn_arc.specs.Pairs.{same_pair}
+use Rattle.dn_arc_theory.specs.Pairs.{same_pair}
 use Rattle.pair_index.specs.State.Positions.{key_at}
 use Rattle.pair_index.specs.State.Tailed.{LeadsTo, Links, Sought}
 use Rattle.pair_index.proofs.PositionLaws.{none_from_positions}

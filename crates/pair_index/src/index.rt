@@ -4,7 +4,7 @@ ghost use Rattle.std.specs.List.{list_any, IsDistinct};
 ghost use Rattle.std.specs.List.Sorted.{IsPermutation, IsStrictlySortedBy};
 ghost use Rattle.std.specs.Map.{keys_of};
 ghost use Rattle.pair_index.specs.State.Indexed.{Indexes};
-ghost use Rattle.dn_arc.specs.Pairs.{pair_cmp, same_pair};
+ghost use Rattle.dn_arc_theory.specs.Pairs.{pair_cmp, same_pair};
 ghost use Rattle.pair_index.specs.State.Positions.{IsPosition};
 ghost use Rattle.pair_index.specs.State.Shown.{HasPositions, ShowsIndex};
 ghost use Rattle.pair_index.specs.State.Chained.{IsChained};
@@ -23,7 +23,7 @@ pub const AHEAD: usize = 16;
 // How entries are found. An index changes from a way only to a later one, or to `Tails` when its chains are rebuilt.
 #[derive(Drop)]
 enum Way {
-    // By binary search, since tails never fall, or never rise. The entries of the last tail may come in any order.
+    // By binary search, since tails never fall. The entries of the last tail may come in any order.
     Runs(Runs),
     // By chains of tails, for pairs that come nearly in order.
     Tails(Tails),
@@ -210,8 +210,8 @@ impl PairIndex {
         ensures moved { IsPermutation entries.old entries.new }
     {
         match self.way {
-            Way::Runs(runs) => runs.end(entries),
-            Way::Tails(_) | Way::Chained(_) | Way::Ordered(_) => sort_by_pair(false, entries),
+            Way::Runs(mut runs) => runs.close(entries),
+            Way::Tails(_) | Way::Chained(_) | Way::Ordered(_) => sort_by_pair(entries),
         }
     }
 

@@ -1,9 +1,9 @@
-// Entries whose tails never fall, or never rise. Only those of the last tail, the group, may come in any order.
+// Entries whose tails never fall. Only those of the last tail, the group, may come in any order.
 ghost use Rattle.std.specs.Prelude.{◌≡◌, ◌≢◌, ◌<◌, ◌≤◌, ◌-◌, ℕ, ℤ, List, [], ◌∷◌, ◌++◌, length, false, true, IsTrue, Ok};
 ghost use Rattle.std.specs.List.{list_any, IsDistinct};
 ghost use Rattle.std.specs.List.Sorted.{IsPermutation};
 ghost use Rattle.std.specs.Map.{keys_of};
-ghost use Rattle.dn_arc.specs.Pairs.{same_pair};
+ghost use Rattle.dn_arc_theory.specs.Pairs.{same_pair};
 ghost use Rattle.pair_index.specs.State.Positions.{key_at, IsPosition, IsPositionFrom};
 ghost use Rattle.pair_index.specs.State.Runs.{IsGroup, ShowsRuns};
 ghost use Rattle.pair_index.specs.State.Sorted.{AreSorted};
@@ -11,7 +11,7 @@ ghost use Rattle.pair_index.specs.State.Sorted.{AreSorted};
 use crate::chains::Chains;
 use crate::pair::{is_pair, is_tail};
 use crate::sort::sort_by_pair;
-use crate::sorted::{is_past, order_of, position_by_search};
+use crate::sorted::{is_past, position_among};
 use std::alloc::{AllocError, Global};
 use std::cmp::Ordering;
 
@@ -29,12 +29,10 @@ enum Group {
     Linked(Chains),
 }
 
-// How entries are found while tails never fall, or never rise. The entries before the group are sorted. The group is
-// sorted once an entry of another tail comes.
+// How entries are found while tails never fall. The entries before the group are sorted. The group is sorted once an
+// entry of another tail comes.
 #[derive(Drop)]
 pub(crate) struct Runs {
-    // Whether the entries are sorted in descending order.
-    falls: bool,
     // The position of the first entry of the group, unless all entries are sorted.
     begin: usize,
     group: Group,
@@ -80,7 +78,6 @@ impl Runs {
         ensures { ShowsRuns result [] }
     {
         Runs {
-            falls: false,
             begin: 0,
             group: Group::Sorted,
             repeats: 0,
@@ -95,7 +92,7 @@ impl Runs {
         ensures stays { IsTrue result → ShowsRuns self.now (keys_of entries.now ++ pair.now ∷ []) }
     {
         match self.group {
-            Group::Sorted => is_past(self.falls, entries, pair),
+            Group::Sorted => is_past(entries, pair),
             _ => false,
         }
     }
@@ -139,7 +136,7 @@ impl Runs {
     // Returns the position of a pair in the group.
     fn find_in_group<X>(&self, entries: &[((i64, i64), X)], pair: &(i64, i64)) -> Option<usize>
         requires shows { ShowsRuns self.now (keys_of entries.now) }
-        requires group { IsGroup self.now.falls (keys_of entries.now) self.now.begin }
+        requires group { IsGroup (keys_of entries.now) self.now.begin }
         ensures { IsPositionFrom (keys_of entries.now) self.now.begin pair.now result }
     {
         match &self.group {
@@ -153,54 +150,39 @@ impl Runs {
 
     // Returns the position of a pair among sorted entries. Counts the pair if it is there and not the last one.
     fn search<X>(&mut self, entries: &[((i64, i64), X)], pair: &(i64, i64)) -> Option<usize>
-        requires { AreSorted self.old.falls (keys_of entries.now) }
+        requires { AreSorted (keys_of entries.now) }
         ensures position { IsPosition (keys_of entries.now) pair.now result }
         ensures stays { (keys : List (ℤ × ℤ)) → ShowsRuns self.old keys → ShowsRuns self.new keys }
     {
-        if is_past(self.falls, entries, pair) {
+        if is_past(entries, pair) {
             return None;
         }
-        let position = position_by_search(self.falls, entries, pair)?;
+        let position = position_among(entries, pair)?;
         if position + 1 < entries.len() {
             self.repeats = self.repeats.saturating_add(1);
         }
         Some(position)
     }
 
-    // Sorts the group.
+    // Sorts the group, and so the entries.
     pub(crate) fn close<X>(&mut self, entries: &mut [((i64, i64), X)])
         requires apart { IsDistinct same_pair (keys_of entries.old) }
         requires shows { ShowsRuns self.old (keys_of entries.old) }
-        ensures sorted { AreSorted self.new.falls (keys_of entries.new) }
-        ensures falls { self.new.falls ≡ self.old.falls }
+        ensures sorted { AreSorted (keys_of entries.new) }
         ensures group { self.new.group ≡ Group.Sorted }
         ensures moved { IsPermutation entries.old entries.new }
     {
         match self.group {
             Group::Sorted => {}
             _ => {
-                sort_by_pair(self.falls, &mut entries[self.begin..]);
+                sort_by_pair(&mut entries[self.begin..]);
                 self.group = Group::Sorted;
             }
         }
     }
 
-    // Sorts the entries in ascending order.
-    pub(crate) fn end<X>(mut self, entries: &mut [((i64, i64), X)])
-        requires apart { IsDistinct same_pair (keys_of entries.old) }
-        requires shows { ShowsRuns self (keys_of entries.old) }
-        ensures sorted { AreSorted false (keys_of entries.new) }
-        ensures moved { IsPermutation entries.old entries.new }
-    {
-        self.close(entries);
-        if !self.falls {
-            return;
-        }
-        entries.reverse();
-    }
-
-    // Adds a pair that comes next, and may sort or reverse the entries. Returns false and changes nothing if tails fall
-    // and rise, or if the chain of the pair is long. Which it returns affects only the speed. If an allocation fails,
+    // Adds a pair that comes next, and may sort the entries. Returns false and changes nothing if its tail is below the
+    // last one, or if the chain of the pair is long. Which it returns affects only the speed. If an allocation fails,
     // nothing changes.
     pub(crate) fn take<X>(
         &mut self,
@@ -222,18 +204,11 @@ impl Runs {
         if is_tail(&last, pair) {
             return self.take_in_group(alloc, entries, pair);
         }
-        if let Ordering::Less = order_of(self.falls, &last, pair) {
+        if let Ordering::Less = last.cmp(pair) {
             self.close(entries);
             return Ok(true);
         }
-        if self.falls || !is_tail(&entries[0].0, &last) {
-            return Ok(false);
-        }
-        // All entries have one tail, and that of the pair is less.
-        self.close(entries);
-        entries.reverse();
-        self.falls = true;
-        Ok(true)
+        Ok(false)
     }
 
     // Adds a pair that comes next and has the tail of the last entry. Returns false and changes nothing if its chain is
@@ -252,7 +227,7 @@ impl Runs {
     {
         match &mut self.group {
             Group::Sorted => {
-                if is_past(self.falls, entries, pair) {
+                if is_past(entries, pair) {
                     return Ok(true);
                 }
                 self.begin = begin_of(entries, pair);
@@ -277,7 +252,7 @@ impl Runs {
         entries: &[((i64, i64), X)],
         pair: &(i64, i64),
     ) -> Result<bool, AllocError>
-        requires group { IsGroup self.old.falls (keys_of entries.now) self.old.begin }
+        requires group { IsGroup (keys_of entries.now) self.old.begin }
         requires tail { (key_at (keys_of entries.now) self.old.begin).0 ≡ pair.now.0 }
         ensures taken { result ≡ Ok true → ShowsRuns self.new (keys_of entries.now ++ pair.now ∷ []) }
         ensures not { result ≢ Ok true → self.new ≡ self.old }

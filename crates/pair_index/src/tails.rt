@@ -4,7 +4,7 @@ ghost use Rattle.std.specs.List.{list_any, IsDistinct};
 ghost use Rattle.std.specs.Map.{keys_of};
 ghost use Rattle.pair_index.specs.State.Tailed.{HasRoomFor, IsTailed, LeadsTo, IsSpot};
 ghost use Rattle.pair_index.specs.State.Positions.{IsPosition};
-ghost use Rattle.dn_arc.specs.Pairs.{same_pair};
+ghost use Rattle.dn_arc_theory.specs.Pairs.{same_pair};
 
 use crate::index::AHEAD;
 use crate::links::{LONG, MOST_LINKED, is_long};

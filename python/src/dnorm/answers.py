@@ -1,7 +1,5 @@
 """What the calls return."""
 
-from __future__ import annotations
-
 import html
 from collections.abc import Iterable, Sequence
 from dataclasses import dataclass
@@ -92,8 +90,7 @@ class Difference:
 
     def __str__(self) -> str:
         tail, head = self.pair or (None, None)
-        values = {"LEFT": self.left, "RIGHT": self.right, "NODE": self.node, "TAIL": tail, "HEAD": head}
-        values |= {"AMOUNT": self.amount, "PLACE": self.place}
+        values = {**{name.upper(): it for name, it in vars(self).items()}, "TAIL": tail, "HEAD": head}
         words = [values.get(it, it) for it in DIFFERENCES[self.what].split()]
         return " ".join("none" if it is None else str(it) for it in words)
 

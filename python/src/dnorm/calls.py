@@ -1,7 +1,5 @@
 """The calls that read, check, canonicalise, compare and write texts. Each reads a text once."""
 
-from __future__ import annotations
-
 import contextlib
 import hashlib
 import os
@@ -11,11 +9,10 @@ from typing import Literal, Optional, Union, overload
 
 from .answers import AnyDifference, Checked, Form, Same
 from .errors import Refused
-from .files import Bounds, File, Target, Text, enough_memory, name_of, sink_of
-from .instances import AnyInstance, Instance
+from .files import File, Target, Text, enough_memory, name_of, sink_of
+from .instances import AnyInstance, ArcLines, Instance
 from .library import Held, LinesRead, held
 from .limits import Limit, at_once
-from .lines import ArcLines
 from .names import KINDS, parts_of
 
 
@@ -38,11 +35,9 @@ def read(
     only for `Min`. With `lines`, returns the instance and the arc lines of the text, which is read once."""
     form, limit = checked_form(form), Limit(timeout, name_of(file))
     with enough_memory(limit.name), contextlib.ExitStack() as stack:
-        of_lines = LinesRead() if lines else None
-        if of_lines:
-            stack.callback(of_lines.free)
-        found = stack.enter_context(held(Text(file, stack, limit), of_lines)).instance(form)
-        arc_lines = ArcLines(found.kind, *of_lines.end()) if of_lines else None
+        reader = stack.enter_context(LinesRead()) if lines else None
+        found = stack.enter_context(held(Text(file, stack, limit), reader.take if reader else None)).instance(form)
+        arc_lines = ArcLines(found.kind, *reader.end()) if reader else None
     return (found, arc_lines) if arc_lines is not None else found
 
 
@@ -53,13 +48,13 @@ def check(file: File, companion: Optional[File] = None, *, timeout: Optional[flo
     `Refused` if the text or the companion has a fault, or if the companion does not fit."""
     limit = Limit(timeout, name_of(file))
     with enough_memory(limit.name), contextlib.ExitStack() as stack:
-        text, fits = SummedText(file, stack, limit), None
-        found = stack.enter_context(held(text))
+        own, fits = Sum(), None
+        found = stack.enter_context(held(Text(file, stack, limit), own.take))
         if companion is not None:
             beside = stack.enter_context(held(Text(companion, stack, limit)))
             found.check_fit(beside)
             fits = beside.kind
-        answer = Checked(found.kind, fits, forms_of(found.kind, text.checksum, found.checksum))
+        answer = Checked(found.kind, fits, forms_of(found.kind, own.checksum, found.checksum))
     return answer
 
 
@@ -106,7 +101,7 @@ def write(instance: Instance, target: Target, *, timeout: Optional[float] = None
     with sink_of(target) as sink, enough_memory(sink.name), contextlib.ExitStack() as stack:
         text = Text(instance, stack, Limit(timeout, sink.name))
         text.name = sink.name
-        stack.enter_context(held(text, sink))
+        stack.enter_context(held(text, sink.take))
 
 
 def canon_into(take: Callable[[bytes], object], file: File, form: Form, limit: Limit) -> None:
@@ -150,31 +145,24 @@ def both_read(
     return at_once(lambda: read(0), lambda: stacks[1].enter_context(held(text)), text.stop)
 
 
-class SummedText(Text):
-    """A text whose pieces are summed. `checksum` is that of the bytes that were read, or None if no canonical text
-    begins as it does."""
+class Sum:
+    """Takes the pieces of a text. `checksum` is that of its bytes, or None if no canonical text begins as it does."""
 
-    def __init__(self, file: File, stack: contextlib.ExitStack, limit: Limit, bounds: Optional[Bounds] = None) -> None:
-        super().__init__(file, stack, limit, bounds)
-        self._sum, self._is_canonical = hashlib.sha256(), True
+    def __init__(self) -> None:
+        self._sum, self._first = hashlib.sha256(), b""
 
-    def next_piece(self) -> Optional[bytes]:
-        is_begun = self.size > 0
-        piece = super().next_piece()
-        if piece:
-            self._is_canonical &= is_begun or piece.startswith(b"p")
-            if self._is_canonical:
-                self._sum.update(piece)
-        return piece
+    def take(self, piece: bytes) -> None:
+        self._first = self._first or piece[:1]
+        if self._first == b"p":
+            self._sum.update(piece)
 
     @property
     def checksum(self) -> Optional[str]:
-        return self._sum.hexdigest() if self._is_canonical else None
+        return self._sum.hexdigest() if self._first == b"p" else None
 
 
 def forms_of(kind: str, own: Optional[str], checksum: Callable[[Form], str]) -> tuple[Form, ...]:
     """Returns the forms in which a text is canonical, by its own checksum and those of its canonical texts."""
-
     forms: tuple[Form, ...] = (1, 2)
     found: list[Form] = []
     # Both forms are the same but for `min`.

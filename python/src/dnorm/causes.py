@@ -16,14 +16,12 @@ expression, which is searched; a number; or a list of numbers, one of which is t
 same meaning in Python with re.ASCII and in JavaScript without flags. The facts are
 
 - `number`, that of the refusal; `line`, the refused line without LF, up to 4,096 bytes; `head`, the first 1,024 bytes
-  of the text; `kind`, and `nodes` and `declared`, the last two numbers on the problem line; `word`, the wrong word, and
-  `field`, what it is called; `rows`, the rows of the kind. Bytes are characters from U+0000 to U+00FF.
+  of the text; `kind`, and `nodes` and `declared`, the last two numbers on the problem line; `word`, the wrong word;
+  `rows`, the rows of the kind. Bytes are characters from U+0000 to U+00FF.
 - only in texts, as {found}: `found`, the number of counted lines; `seen`, where the node or the terminal of the line
   comes first; `sum`, the sum of a pair; `naming`, the line that names a node; `file`, the name of the file as a word of
   a shell. A text whose fact is not known is not said.
 """
-
-from __future__ import annotations
 
 import contextlib
 import functools
@@ -54,7 +52,7 @@ PACKED = {".gz": b"\x1f\x8b", ".bz2": b"BZh", ".xz": b"\xfd7zX", ".zst": b"\x28\
 # The refusals that a row explains. A field that is no number is s|t.
 ROWS = (1, 8, 9, 10, 11, 12, 13, 16, 17)
 # What is known of a refusal, by the names in hints. A function finds what takes a look at the text.
-FACTS = ("line", "head", "kind", "nodes", "declared", "rows", "word", "field", "found", "seen", "sum", "naming", "file")
+FACTS = ("line", "head", "kind", "nodes", "declared", "rows", "word", "found", "seen", "sum", "naming", "file")
 Fact = Union[None, int, str, Callable[[], Optional[str]]]
 
 
@@ -102,28 +100,26 @@ def lines_of(pieces: Iterator[bytes]) -> Iterator[bytes]:
         yield rest
 
 
-def cause_of(text: Opener | None, name: str | None, line: int | None, number: int, node: int | None = None) -> Cause:
+def cause_of(
+    text: Optional[Opener], name: Optional[str], line: Optional[int], number: int, node: Optional[int] = None
+) -> Cause:
     """Returns the cause of a refusal, by its line, its number and its node, also if the text is not known. `name` is
     that of the file, if the bytes of the file are the text: hints have commands then."""
     if text is None:
         return None, "\n".join(hints_of({**dict.fromkeys(FACTS), "number": number})) or None, None
-    head = next(text(), b"")
-    refused, problem = scanned(lines_of(text()), line)
+    again, head = text, next(text(), b"")
+    refused, problem = scanned(lines_of(again()), line)
     words = words_of(refused or b"")
-    named = problem[3:4] if problem[1:2] == ["aux"] else problem[1:2]
-    kind = named[0] if named else ""
+    kind = "".join(problem[3:4] if problem[1:2] == ["aux"] else problem[1:2])
     facts: dict[str, Fact] = {"number": number, "line": plain(refused or b""), "head": plain(head[:HEAD]), "kind": kind}
     facts |= {"nodes": dict(enumerate(problem)).get(2), "declared": problem[-1] if problem else None}
-    facts["file"] = name and quoted(name)
-    facts |= {"rows": "; ".join(data()["rows"].get(kind, {}).values()), "word": None, "field": None}
-    again = text
+    facts |= {"rows": "; ".join(data()["rows"].get(kind, {}).values()), "file": name and quoted(name)}
     facts |= {"found": lambda: str(sum(1 for it in lines_of(again()) if COUNTED.match(it)))}
-    facts |= {"naming": lambda: named_by(lines_of(again()), node)}
     facts |= {"seen": lambda: seen(lines_of(again()), words), "sum": lambda: summed(lines_of(again()), line, words)}
+    facts |= {"naming": lambda: named_by(lines_of(again()), node)}
     fields = fields_of(kind, words)
     at = place_of(number, words, fields, facts) if words else None
-    if at is not None and at < len(words):
-        facts |= {"word": plain(words[at]), "field": fields[at] if at < len(fields) else None}
+    facts["word"] = plain(words[at]) if at is not None and at < len(words) else None
     # A line of numbers lacks its letter.
     row = [row_of([fields[0].encode(), *words] if number == 1 else words, fields)] if fields and number in ROWS else []
     shown = None if refused is None else visible(refused[:SHOWN])
@@ -159,7 +155,7 @@ def holds(hint: Any, facts: dict[str, Fact]) -> bool:
     return is_met and not any(meets(facts[it], test) for it, test in hint.get("unless", {}).items())
 
 
-def said(hint: Any, facts: dict[str, Fact]) -> str | None:
+def said(hint: Any, facts: dict[str, Fact]) -> Optional[str]:
     """Returns the text of a hint, with a command if the file has a name, or None if a fact is not known."""
     text = hint["say"] + (f": {hint['run']} | dnorm check -" if "run" in hint and facts["file"] else "")
     known = {it: fact() if callable(fact) else fact for it in re.findall(r"\{(\w+)\}", text) for fact in [facts[it]]}
@@ -187,7 +183,7 @@ def row_of(words: list[bytes], fields: list[str]) -> str:
     return " ".join([*told, *missing]) + (f": {visible(extra[0][:40])} is too many" if extra else more)
 
 
-def place_of(number: int, words: list[bytes], fields: list[str], facts: dict[str, Fact]) -> int | None:
+def place_of(number: int, words: list[bytes], fields: list[str], facts: dict[str, Fact]) -> Optional[int]:
     """Returns the place of the wrong word on a line, the number of words if one is missing, or None."""
     rule: dict[str, Any] = data()["marks"].get(str(number), {})
     if number == 8 and fields:
@@ -207,7 +203,7 @@ def place_of(number: int, words: list[bytes], fields: list[str], facts: dict[str
     return None
 
 
-def mark_of(line: bytes, at: int) -> tuple[int, int] | None:
+def mark_of(line: bytes, at: int) -> Optional[tuple[int, int]]:
     """Returns where the word at this place, or the end of the words, is in what is shown of a line."""
     places = [it.span() for it in re.finditer(rb"[^ \t\r]+", line)]
     start, end = places[at] if at < len(places) else (places[-1][1] + 1, places[-1][1] + 2)
@@ -215,7 +211,7 @@ def mark_of(line: bytes, at: int) -> tuple[int, int] | None:
     return (before, before + max(1, len(visible(line[start : min(end, SHOWN)])))) if start < SHOWN else None
 
 
-def scanned(lines: Iterator[bytes], line: int | None) -> tuple[bytes | None, list[str]]:
+def scanned(lines: Iterator[bytes], line: Optional[int]) -> tuple[Optional[bytes], list[str]]:
     """Returns the refused line, and the words of the problem line, if that comes before."""
     problem: list[str] = []
     for at, it in enumerate(lines, 1):
@@ -242,15 +238,15 @@ def hint_of_compressed(head: bytes, name: str) -> str:
     return "The file is not compressed as its name says" if head else "The file is empty"
 
 
-def hint_of_missing(path: str | os.PathLike[str] | os.PathLike[bytes]) -> str | None:
+def hint_of_missing(path: str) -> Optional[str]:
     """Returns why a file may be missing: what a link leads to that leads nowhere."""
     with contextlib.suppress(OSError, ValueError):
-        if ANNEX in os.readlink(os.fsdecode(path)) and not os.path.exists(path):
+        if ANNEX in os.readlink(path) and not os.path.exists(path):
             return "The file is a pointer of git-annex, and the text is missing: git annex get"
     return None
 
 
-def seen(lines: Iterator[bytes], words: list[bytes]) -> str | None:
+def seen(lines: Iterator[bytes], words: list[bytes]) -> Optional[str]:
     """Returns where the node, the source or the sink of a refused line comes first."""
     terminal = words[2] if words[2:] and words[2] in (b"s", b"t") else None
     for at, it in enumerate(lines, 1):
@@ -265,7 +261,7 @@ def seen(lines: Iterator[bytes], words: list[bytes]) -> str | None:
     return None
 
 
-def summed(lines: Iterator[bytes], line: int | None, words: list[bytes]) -> str | None:
+def summed(lines: Iterator[bytes], line: Optional[int], words: list[bytes]) -> Optional[str]:
     """Returns the sum of the capacities of a pair before the refused line."""
     if len(words) not in (4, 6) or not line:
         return None
@@ -279,7 +275,7 @@ def summed(lines: Iterator[bytes], line: int | None, words: list[bytes]) -> str 
     return f"The capacities from {tail} to {head} sum to {total} before this line, and with it to {total + cap}"
 
 
-def named_by(lines: Iterator[bytes], node: int | None) -> str | None:
+def named_by(lines: Iterator[bytes], node: Optional[int]) -> Optional[str]:
     """Returns the first line of a companion that names a node."""
     for at, it in enumerate(lines, 1):
         letter, *others = words_of(it) or [b""]
@@ -289,6 +285,6 @@ def named_by(lines: Iterator[bytes], node: int | None) -> str | None:
     return None
 
 
-def number_of(word: bytes) -> int | None:
+def number_of(word: bytes) -> Optional[int]:
     """Returns the number that a word spells, if it does."""
     return int(word) if re.fullmatch(rb"[+-]?[0-9]{1,4000}", word) else None

@@ -1,12 +1,10 @@
 """Columns of numbers of 64 signed bits, which cannot be written."""
 
-from __future__ import annotations
-
 import importlib
 import operator
 from array import array
 from collections.abc import Callable, Iterable, Iterator
-from typing import TYPE_CHECKING, Any, Protocol
+from typing import TYPE_CHECKING, Any, NamedTuple, Protocol
 
 if TYPE_CHECKING:
     import numpy
@@ -43,9 +41,13 @@ def numpy_here() -> Any:
         return None
 
 
-def column(numbers: array[int]) -> Any:
+def column(numbers: "array[int]") -> Any:
     np = numpy_here()
     return memoryview(numbers).toreadonly() if np is None else read_only(np.asarray(numbers).view(np.int64))
+
+
+def zeros(count: int) -> "array[int]":
+    return array("q", bytes(8 * count))
 
 
 def read_only(numbers: Any) -> Any:
@@ -54,11 +56,10 @@ def read_only(numbers: Any) -> Any:
     return numbers
 
 
-class Own:
+class Own(NamedTuple):
     """A column whose memory nothing else writes, so that an instance may keep it without a copy."""
 
-    def __init__(self, numbers: Any) -> None:
-        self.numbers = numbers
+    numbers: Any
 
 
 def frozen(name: str, given: Any) -> Any:
@@ -93,7 +94,7 @@ def column_of(name: str, given: Any) -> Any:
     return column(numbers_of(given, lambda place: f"{name}[{place}]"))
 
 
-def numbers_of(given: Iterable[Any], name_at: Callable[[int], str]) -> array[int]:
+def numbers_of(given: Iterable[Any], name_at: Callable[[int], str]) -> "array[int]":
     """Returns an array of these numbers. Raises TypeError if one is not whole, and OverflowError if one does not fit;
     errors call it by the name that `name_at` returns for its place."""
     found = array("q")

@@ -1,7 +1,5 @@
 """Compressed files, by the endings of their names, in small letters or capitals."""
 
-from __future__ import annotations
-
 import contextlib
 from collections.abc import Callable, Iterator
 from importlib import import_module
@@ -11,10 +9,6 @@ from .names import packed_of, unknown_compression, unread_text
 
 # The number of bytes that are read and written at a time.
 SIZE = 1 << 16
-# Why files of zstd are not read or written.
-NO_ZSTD = "zstd needs Python 3.14 or the module zstandard"
-
-
 # Returns at most so many bytes of a file, and none at its end.
 Reads = Callable[[int], bytes]
 
@@ -51,7 +45,7 @@ def by_zstd(make: Callable[[Any], Any], other: Callable[[Any], Any]) -> Any:
     for name, it in (("compression.zstd", make), ("zstandard", other)):
         with contextlib.suppress(ImportError):
             return it(import_module(name))
-    raise OSError(NO_ZSTD)
+    raise OSError("zstd needs Python 3.14 or the module zstandard")
 
 
 # How the files of each ending are read and written. The modules are imported where they are used, since some builds of
@@ -75,12 +69,6 @@ COMPRESSORS: dict[str, Callable[[BinaryIO], Any]] = {
         lambda it: it.ZstdCompressor(write_checksum=True).stream_writer(file, closefd=False),
     ),
 }
-# Whether so many zeros may follow a stream, given whether they end the file: the tool of the format neither fails nor
-# warns then, and reads on.
-PADS: dict[str, Callable[[int, bool], bool]] = {
-    ".gz": lambda zeros, is_end: is_end or not zeros,
-    ".xz": lambda zeros, _: zeros % 4 == 0,
-}
 
 
 def compression_of(name: str, is_written: bool = False) -> str:
@@ -93,36 +81,27 @@ def compression_of(name: str, is_written: bool = False) -> str:
 
 def pieces(read: Reads, ending: str) -> Iterator[bytes]:
     """Yields what a compressed file decompresses to, piece by piece. The file has one stream or several, one after
-    another. Raises EOFError if the last one is cut, and OSError if one is corrupt, or if anything follows one that the
-    tool of the format does not take. The functions of the standard library ignore what follows a stream of bzip2 and
-    xz, even a corrupt stream."""
+    another. Raises EOFError if the last one is cut, an error of its module if one is corrupt, and OSError if anything
+    follows one that the tool of the format does not take. The functions of the standard library ignore what follows a
+    stream of bzip2 and xz, even a corrupt stream."""
     data = read(SIZE)
     while True:
         stream, size = DECOMPRESSORS[ending](), 0
         while not stream.eof:
             if not data and size < SIZE:
                 raise EOFError("the compressed data end too early")
-            piece = decompressed(stream, data)
+            # zlib hands back what it has not used yet, and the others keep it.
+            piece = bytes(stream.decompress(getattr(stream, "unconsumed_tail", b"") + data, SIZE))
             size = len(piece)
             yield piece
             data = read(SIZE) if size < SIZE and not stream.eof else b""
         zeros, data = after_zeros(bytes(stream.unused_data), read)
-        if zeros and not PADS.get(ending, lambda *_: False)(zeros, not data):
+        # The tool of the format neither fails nor warns at such zeros, and reads on.
+        are_allowed = ending == ".gz" and not data or ending == ".xz" and zeros % 4 == 0
+        if zeros and not are_allowed:
             raise OSError(f"{zeros} zero {'byte follows' if zeros == 1 else 'bytes follow'} the compressed data")
         if not data:
             return
-
-
-def decompressed(stream: Any, data: bytes) -> bytes:
-    """Returns what the data given so far decompress to: the next SIZE bytes, or else all that is left."""
-    try:
-        # zlib hands back what it has not used yet, and the others keep it.
-        return bytes(stream.decompress(getattr(stream, "unconsumed_tail", b"") + data, SIZE))
-    except MemoryError:
-        raise
-    except Exception as error:
-        # Each module has an error of its own for corrupt data.
-        raise OSError(str(error)) from error
 
 
 def after_zeros(data: bytes, read: Reads) -> tuple[int, bytes]:

@@ -1,7 +1,5 @@
 """What commands share: standard output and standard error, the signals that end a run, and numbers of options."""
 
-from __future__ import annotations
-
 import argparse
 import contextlib
 import os
@@ -11,7 +9,7 @@ import sys
 import threading
 import time
 from collections.abc import Callable
-from typing import IO, NoReturn, Optional
+from typing import IO, NoReturn, Optional, Union
 
 from .errors import Write
 from .files import reason_of, write_all
@@ -97,7 +95,7 @@ class Console:
                 self._complain(f"\r{drawn.ljust(len(self._drawn))}")
                 self._drawn = drawn
 
-    def print(self, text: str | bytes) -> None:
+    def print(self, text: Union[str, bytes]) -> None:
         """Writes text to standard output, and bytes as they are. Raises Write if that fails, and Stopped if nothing
         reads it any more: then the run ends as other programs do."""
         self.hide()

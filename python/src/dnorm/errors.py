@@ -1,7 +1,5 @@
 """The errors that the calls raise."""
 
-from __future__ import annotations
-
 from typing import Optional
 
 from .refusals import REFUSALS

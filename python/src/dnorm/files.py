@@ -1,7 +1,5 @@
 """The files that are read, and the targets that canonical texts are written to."""
 
-from __future__ import annotations
-
 import contextlib
 import functools
 import io
@@ -39,11 +37,12 @@ class Writable(Protocol):
 
 
 # A path, whose bytes need not be UTF-8; the bytes of a text; a binary stream; or an instance.
-File = Union[str, os.PathLike[str], os.PathLike[bytes], bytes, bytearray, memoryview, Readable, Instance]
-Target = Union[str, os.PathLike[str], os.PathLike[bytes], Writable]
+Path = Union[str, os.PathLike[str], os.PathLike[bytes]]
+File = Union[Path, bytes, bytearray, memoryview, Readable, Instance]
+Target = Union[Path, Writable]
 
 
-def name_of(file: File | Target) -> str:
+def name_of(file: Union[File, Target]) -> str:
     """Returns the name by which errors call a file: its path, the name of a stream, or `-`."""
     if isinstance(file, (str, os.PathLike)):
         return os.fsdecode(file)
@@ -56,7 +55,7 @@ def reason_of(error: Exception) -> str:
 
 
 @contextlib.contextmanager
-def failing(kind: type[Read] | type[Write], name: str) -> Iterator[None]:
+def failing(kind: Union[type[Read], type[Write]], name: str) -> Iterator[None]:
     """Raises an error of this kind if anything fails, with the reason. Errors of this package, wrong types, lack of
     memory, and the error of a handler of an alarm stay what they are."""
     try:
@@ -141,7 +140,7 @@ class Bounds(NamedTuple):
         return path
 
 
-def opened(path: str | os.PathLike[str] | os.PathLike[bytes], limit: Limit, bounds: Bounds | None = None) -> io.FileIO:
+def opened(path: Path, limit: Limit, bounds: Optional[Bounds] = None) -> io.FileIO:
     is_found = bounds is not None and path not in bounds.named
     if limit.seconds is None and not is_found:
         return open(path, "rb", buffering=0)
@@ -160,88 +159,84 @@ def opened(path: str | os.PathLike[str] | os.PathLike[bytes], limit: Limit, boun
     return file
 
 
-def mark_of(file: BinaryIO) -> tuple[int, int] | None:
+def mark_of(file: BinaryIO) -> Optional[tuple[int, int]]:
     """Returns what changes when a regular file is written: its size and its time. Returns None for any other file."""
     found = os.fstat(file.fileno())
     return (found.st_size, found.st_mtime_ns) if stat.S_ISREG(found.st_mode) else None
 
 
 class Text:
-    """A text that is read once, from its beginning: `is_file` says whether its bytes are those of an open file, and
-    `is_compressed` whether a file is decompressed. The file of a path is opened once, within the bounds of what was
-    found, if there are any, and the stack closes it. `size` counts the bytes that were read."""
+    """A text that is read once, from its beginning. The file of a path is opened once, at the first piece, within the
+    bounds of what was found, if there are any, and the stack closes it; `ending` is that of its compression. `size`
+    counts the bytes that were read."""
 
-    def __init__(self, file: File, stack: contextlib.ExitStack, limit: Limit, bounds: Bounds | None = None) -> None:
+    def __init__(self, file: File, stack: contextlib.ExitStack, limit: Limit, bounds: Optional[Bounds] = None) -> None:
         self.file, self.name, self.limit = file, name_of(file), limit
-        self.size, self.is_file = 0, False
-        self._pieces: Iterator[bytes] = iter(())
-        self._opened: io.FileIO | None = None
-        self._mark: tuple[int, int] | None = None
-        # What the next piece raises. An earlier text is judged first.
-        self._error: Read | None = None
-        try:
-            if isinstance(file, (str, os.PathLike)):
-                if isinstance(file, str) and "\n" in file and not os.path.lexists(file):
-                    raise TypeError("a str is a path, and there is no such file: give a text as bytes")
-                with failing(Read, self.name):
-                    self._opened = stack.enter_context(opened(file, limit, bounds))
-                    self._mark = mark_of(self._opened)
-            self._pieces = self._begun()
-        except Read as error:
-            if isinstance(file, (str, os.PathLike)):
-                error = Read(error.name, error.reason, error.hint or hint_of_missing(file))
-            self._error = error
-        self.is_compressed = self._opened is not None and not self.is_file
+        self.ending, self.size = "", 0
+        self._stack, self._bounds, self._is_wanted = stack, bounds, True
+        self._opened: Optional[io.FileIO] = None
+        self._mark: Optional[tuple[int, int]] = None
+        self._pieces = self._begun()
 
     def _begun(self) -> Iterator[bytes]:
-        """Begins the text, and returns its pieces."""
+        """Yields the pieces of the text, of an open file from where it is."""
         file = self.file
-        if self._opened:
-            with failing(Read, self.name):
-                ending = compression_of(self.name)
-            self.is_file, timed = not ending, Timed(self._opened, self.limit)
-            return self._decompressed(self._opened, timed.read, ending) if ending else of_stream(timed)
-        if isinstance(file, (bytes, bytearray, memoryview)):
+        if isinstance(file, (str, os.PathLike)):
+            if isinstance(file, str) and "\n" in file and not os.path.lexists(file):
+                raise TypeError("a str is a path, and there is no such file: give a text as bytes")
+            if not self._opened:
+                self._opened = self._stack.enter_context(opened(file, self.limit, self._bounds))
+                self._mark, self.ending = mark_of(self._opened), compression_of(self.name)
+            timed = Timed(self._opened, self.limit)
+            yield from self._decompressed(self._opened, timed.read) if self.ending else of_stream(timed)
+        elif isinstance(file, (bytes, bytearray, memoryview)):
             data = memoryview(file).cast("B")
-            return (bytes(data[at : at + SIZE]) for at in range(0, len(data), SIZE))
-        if isinstance(file, Instance):
-            return file.pieces()
-        if isinstance(file, (str, os.PathLike)) or not hasattr(file, "read"):
+            yield from (bytes(data[at : at + SIZE]) for at in range(0, len(data), SIZE))
+        elif isinstance(file, Instance):
+            yield from file.pieces()
+        elif hasattr(file, "read"):
+            yield from of_stream(file)
+        else:
             kinds = "a path, bytes, a binary stream or an instance"
             raise TypeError(f"a file is {kinds}, and not {type(file).__name__}")
-        return of_stream(file)
 
-    def _decompressed(self, file: io.FileIO, read: Reads, ending: str) -> Iterator[bytes]:
+    def _decompressed(self, file: io.FileIO, read: Reads) -> Iterator[bytes]:
         try:
-            yield from pieces(read, ending)
-        except (OSError, EOFError) as error:
+            yield from pieces(read, self.ending)
+        except (DnormError, MemoryError):
+            raise
+        except Exception as error:
             head = os.pread(file.fileno(), SHOWN, 0) if self._mark else b""
             hint = hint_of_compressed(head, self.name) if self._mark else None
             raise Read(self.name, reason_of(error), hint) from error
 
-    def next_piece(self) -> bytes | None:
-        if self._error:
-            raise self._error
-        with failing(Read, self.name):
-            piece = next(self._pieces, None)
+    def next_piece(self) -> Optional[bytes]:
+        if not self._is_wanted:
+            raise Read(self.name, "it is no longer wanted")
+        try:
+            with failing(Read, self.name):
+                piece = next(self._pieces, None)
+        except Read as error:
+            raise Read(error.name, error.reason, error.hint or hint_of_missing(self.name)) from error.__cause__
         self.size += len(piece or b"")
         return piece
 
     def stop(self) -> None:
         """Lets reading the text fail from the next piece on, for a thread whose answer is no longer wanted."""
-        self._error = Read(self.name, "it is no longer wanted")
+        self._is_wanted = False
 
     def stay_same(self) -> None:
         """Raises Read if the file of the text was written since it was opened."""
         if self._opened and self._mark and mark_of(self._opened) != self._mark:
             raise Read(self.name, "it changed while it was read")
 
-    def cause(self, line: int | None, number: int, node: int | None) -> Cause | None:
+    def cause(self, line: Optional[int], number: int, node: Optional[int]) -> Optional[Cause]:
         """Returns the cause of a refusal, if the text can be read again."""
         if self._mark is None and not isinstance(self.file, (bytes, bytearray, memoryview, Instance, Copied)):
             return None
         with contextlib.suppress(DnormError, OSError, EOFError):
-            return cause_of(self._again, self.name if self.is_file else None, line, number, node)
+            name = self.name if self._opened and not self.ending else None
+            return cause_of(self._again, name, line, number, node)
         return None
 
     def _again(self) -> Iterator[bytes]:
@@ -253,11 +248,11 @@ class Text:
         return self._begun()
 
 
-class Sink:
+class Sink(NamedTuple):
     """Where a text goes, piece by piece, by `take`. Errors call it by its name."""
 
-    def __init__(self, name: str, take: Callable[[bytes], object]) -> None:
-        self.name, self.take = name, take
+    name: str
+    take: Callable[[bytes], object]
 
 
 @contextlib.contextmanager

@@ -1,7 +1,5 @@
 """The texts of folders, and a check of all of them."""
 
-from __future__ import annotations
-
 import os
 from collections.abc import Iterable, Sequence
 from concurrent.futures import ThreadPoolExecutor
@@ -36,7 +34,7 @@ def find(
     *,
     follow: bool = False,
     within: Optional[str] = None,
-) -> Found:
+) -> "Found":
     """Returns the files that these paths name. The path of a folder names all files below it that end in one of these
     endings, in small letters or capitals, compressed or not, except what matches an excluded pattern. A folder that
     cannot be read, or that has no such file, has an error, and so has a text behind a compression that is not read, and
@@ -61,14 +59,12 @@ def find(
     return found
 
 
-def error_of(path: str, endings: Sequence[str]) -> DnormError | None:
+def error_of(path: str, endings: Sequence[str]) -> Optional[DnormError]:
     """Returns the error of what is found under the name of a text, and is not opened: a file that is not decompressed,
     and a pipe, for which opening could wait without end."""
-    reason = unread_text(path, endings)
-    if reason:
-        return Read(path, reason, EXCLUDES)
     is_none = not os.path.isfile(path) and os.path.exists(path)
-    return Read(path, NO_FILE, EXCLUDES) if is_none else None
+    reason = unread_text(path, endings) or (NO_FILE if is_none else "")
+    return Read(path, reason, EXCLUDES) if reason else None
 
 
 def in_order_of_names(found: dict[str, Result]) -> dict[str, Result]:

@@ -1,17 +1,19 @@
-"""Instances as columns of numbers."""
+"""Instances as columns of numbers; and the arc lines of a text in its order, and a flow on canonical arcs put back on
+them."""
 
 from __future__ import annotations
 
 import importlib
 import operator
 from array import array
-from collections.abc import Callable, Iterator, Mapping
+from collections import Counter
+from collections.abc import Callable, Iterator, Mapping, Sequence
 from dataclasses import dataclass, fields
-from itertools import accumulate, islice
+from itertools import accumulate, groupby, islice
 from typing import TYPE_CHECKING, Any, ClassVar, Generic, Literal, NamedTuple, NoReturn, TypeVar, Union, overload
 
 from .answers import table
-from .columns import LEAST, MOST, Column, Own, column, column_of, frozen, least_and_greatest
+from .columns import LEAST, MOST, Column, Own, column, column_of, frozen, least_and_greatest, numbers_of, zeros
 
 if TYPE_CHECKING:
     from networkx import DiGraph, MultiDiGraph
@@ -76,10 +78,10 @@ class Instance:
     def __post_init__(self) -> None:
         names = column_names(type(self))
         for it in fields(self):
-            if str(it.type) in ("int", "Column"):
-                found = (whole if str(it.type) == "int" else frozen)(it.name, getattr(self, it.name))
+            checked = {"int": whole, "Column": frozen}.get(str(it.type))
+            if checked:
                 # The class is frozen to its users.
-                object.__setattr__(self, it.name, found)
+                object.__setattr__(self, it.name, checked(it.name, getattr(self, it.name)))
         for name, count in zip(names, map(len, self._columns())):
             if count != len(self):
                 raise ValueError(f"{names[0]} and {name} have {len(self)} and {count} numbers")
@@ -90,10 +92,10 @@ class Instance:
     def __eq__(self, other: object) -> bool:
         if not isinstance(other, Instance) or type(other) is not type(self):
             return NotImplemented
-        if not all(memoryview(one) == memoryview(it) for one, it in zip(self._columns(), other._columns())):
-            return False
+        columns = zip(self._columns(), other._columns())
         names = {it.name for it in fields(self)}.difference(column_names(type(self)))
-        return all(getattr(self, it) == getattr(other, it) for it in names)
+        others = ((getattr(self, it), getattr(other, it)) for it in names)
+        return all(memoryview(a) == memoryview(b) for a, b in columns) and all(a == b for a, b in others)
 
     def __hash__(self) -> int:
         return hash((type(self), *(memoryview(it).tobytes() for it in self._columns())))
@@ -136,9 +138,8 @@ class Instance:
 
     def to_pandas(self) -> DataFrame:
         """Returns a `pandas.DataFrame` with the columns, and a row for each arc or item."""
-        columns = zip(column_names(type(self)), map(importlib.import_module("numpy").array, self._columns()))
-        made: DataFrame = importlib.import_module("pandas").DataFrame(dict(columns))
-        return made
+        numpy, pandas = importlib.import_module("numpy"), importlib.import_module("pandas")
+        return pandas.DataFrame({it: numpy.array(getattr(self, it)) for it in column_names(type(self))})
 
 
 Made = TypeVar("Made", bound=Instance)
@@ -172,7 +173,7 @@ class Star(NamedTuple):
 
 def ends_of(nodes: int, ends: list[int]) -> Any:
     """Returns how many of these nodes are at most 0, 1, 2 and so on to the last node."""
-    counts = array("q", bytes(8 * (nodes + 1)))
+    counts = zeros(nodes + 1)
     for it in ends:
         counts[it] += 1
     return column(array("q", accumulate(counts)))
@@ -233,8 +234,7 @@ class Graph(Instance):
     def check_ends(self) -> None:
         """Raises ValueError if an arc has an end that is no node."""
         for name in ("tails", "heads"):
-            ends = getattr(self, name)
-            least, greatest = least_and_greatest(ends) if len(ends) else (1, 0)
+            least, greatest = least_and_greatest(getattr(self, name)) if len(self) else (1, 0)
             if least < 1 or greatest > self.nodes:
                 raise ValueError(f"{name} has a node that is none of 1 to {self.nodes}: nodes count from 1")
 
@@ -269,8 +269,7 @@ class Max(Arcs[tuple[int, int, int]], Graph):
     capacities: Column
 
     def _heads(self) -> Iterator[str]:
-        yield f"n {self.source} s\n"
-        yield f"n {self.sink} t\n"
+        return iter([f"n {self.source} s\nn {self.sink} t\n"])
 
     def to_networkx(self) -> Network:
         """Returns a `networkx.DiGraph`, whose edges have the attribute `capacity`. Its attributes
@@ -305,7 +304,7 @@ class Min(Arcs[tuple[int, int, int, int, int]], Graph):
 
     def supply_column(self) -> Column:
         """Returns the flow of each node. That of node i is at place i - 1."""
-        flows = array("q", bytes(8 * self.nodes))
+        flows = zeros(self.nodes)
         for node, flow in of_nodes(self.supplies, self.nodes).items():
             flows[node - 1] = flow
         found: Column = column(flows)
@@ -321,8 +320,7 @@ class Min(Arcs[tuple[int, int, int, int, int]], Graph):
         self.check_ends()
         fixed = sum(low * cost for _, _, low, _, cost in self.arcs())
         graph: MultiNetwork = importlib.import_module("networkx").MultiDiGraph(cost=fixed)
-        demands = dict.fromkeys(range(1, self.nodes + 1), 0)
-        demands.update((node, -flow) for node, flow in self.supplies.items())
+        demands = {**dict.fromkeys(range(1, self.nodes + 1), 0), **{it: -flow for it, flow in self.supplies.items()}}
         graph.add_nodes_from(demands)
         for tail, head, low, cap, cost in self.arcs():
             demands[tail] += low
@@ -435,17 +433,16 @@ def from_arrays(kind: Any, **values: Any) -> Any:
         if it in given and not 1 <= given[it] <= nodes:
             raise ValueError(f"{it} is {given[it]}, which is no node of 1 to {nodes}: nodes count from 1")
     if made is Min:
-        given.setdefault("lows", column(array("q", bytes(8 * len(given.get("tails", ()))))))
+        given.setdefault("lows", column(zeros(len(given.get("tails", ())))))
         given["supplies"] = flows_of(given.get("supplies", {}), nodes)
     return made(**{name: Own(it) if name in names else it for name, it in given.items()})
 
 
 def class_of(kind: object) -> Any:
     """Returns the class of instances that is given, or that of a kind."""
-    if isinstance(kind, str) and kind in CLASSES:
-        return CLASSES[kind]
-    if kind in CLASSES.values():
-        return kind
+    found = CLASSES.get(kind, kind) if isinstance(kind, str) else kind
+    if found in CLASSES.values():
+        return found
     raise TypeError(f"kind is one of dnorm.{', dnorm.'.join(it.__name__ for it in CLASSES.values())}, or its name")
 
 
@@ -466,3 +463,66 @@ def of_nodes(supplies: Mapping[int, int], nodes: int) -> Mapping[int, int]:
         if not 1 <= node <= nodes:
             raise ValueError(f"supplies has node {node}, which is none of 1 to {nodes}: nodes count from 1")
     return supplies
+
+
+@dataclass(frozen=True, eq=False, repr=False)
+class ArcLines:
+    """The arc lines of a text of this kind, in its order. Line i has the number `numbers[i]`, counted from 1, in the
+    file. It goes from `tails[i]` to `heads[i]`, and its numbers are those of an arc: the length (`sp`) or the capacity
+    (`max`) in `a`; LOW, CAP and COST (`min`) in `a`, `b` and `c`. The numbers that the kind lacks are 0."""
+
+    kind: str
+    numbers: Column
+    tails: Column
+    heads: Column
+    a: Column
+    b: Column
+    c: Column
+
+    def __len__(self) -> int:
+        return len(self.numbers)
+
+    def __repr__(self) -> str:
+        return f"<dnorm.ArcLines: {len(self)} lines>"
+
+    def _parts(self) -> Iterator[tuple[tuple[int, int], int, int, int, int]]:
+        """Yields the pair of each line, its cost, its place, its lower bound, and the units above that."""
+        rows = zip(*(it.tolist() for it in (self.tails, self.heads, self.a, self.b, self.c)))
+        for at, (tail, head, a, b, c) in enumerate(rows):
+            # A line of the shortest path can take any number.
+            low, room, cost = {"min": (a, b - a, c), "max": (0, a, 0)}.get(self.kind, (0, MOST, a))
+            yield (tail, head), cost, at, low, room
+
+    def spread(self, graph: Graph, flow: Union[Sequence[int], Column]) -> Column:
+        """Puts a flow on the arcs of `graph`, the instance that `read` returned with these lines, back on the lines:
+        `flow[i]` is the flow of arc i. Returns the units of each line. The lines of a pair share the flow of its arcs:
+        in `min` each has its LOW, and the rest goes to the cheapest, so that the cost stays the same; in `max` the
+        first ones are filled; in `sp` the first of the shortest has all. Raises ValueError if the units of a pair are
+        not between the sums of its lower bounds and of its capacities."""
+        given = numbers_of(flow, "flow[{}]".format)
+        if len(given) != len(graph):
+            raise ValueError(f"the graph has {len(graph)} arcs, and the flow {len(given)} numbers")
+        wanted = Counter[tuple[int, int]]()
+        for tail, head, units in zip(graph.tails.tolist(), graph.heads.tolist(), given):
+            if units < 0:
+                raise ValueError(f"an arc from {tail} to {head} has {units} units")
+            wanted[tail, head] += units
+        found = zeros(len(self))
+        for pair, lines in groupby(sorted(self._parts()), key=lambda it: it[0]):
+            group = list(lines)
+            left = wanted.pop(pair, 0) - sum(low for _, _, _, low, _ in group)
+            for _, _, at, low, room in group:
+                found[at] = low + max(0, min(left, room))
+                left -= found[at] - low
+            if left:
+                raise ValueError(f"the units from {pair[0]} to {pair[1]} are not between what its lines allow")
+        if wanted:
+            raise ValueError(f"the text has no arc line from {min(wanted)[0]} to {min(wanted)[1]}")
+        of_lines: Column = column(found)
+        return of_lines
+
+    def flow_lines(self, units: Union[Sequence[int], Column]) -> Iterator[bytes]:
+        """Yields the line `f TAIL HEAD UNITS` of each arc line, in the order of the text."""
+        if len(units) != len(self):
+            raise ValueError(f"there are {len(self)} arc lines, and {len(units)} numbers of units")
+        return map(b"f %d %d %d\n".__mod__, zip(self.tails.tolist(), self.heads.tolist(), map(int, units)))

@@ -1,7 +1,5 @@
 """Reads texts by the library for C, libdnorm, which comes with this package."""
 
-from __future__ import annotations
-
 import contextlib
 import ctypes
 import functools
@@ -10,15 +8,15 @@ import operator
 import os
 import platform
 from array import array
-from collections.abc import Iterator
+from collections.abc import Callable, Iterator
 from importlib.machinery import EXTENSION_SUFFIXES
 from itertools import starmap
-from typing import Any, cast
+from typing import Any, Optional, Union, cast
 
 from .answers import AnyDifference, Difference, Same
-from .columns import Own, column
+from .columns import Own, column, zeros
 from .errors import DnormError, Endless, Memory, NoLibrary, Refused
-from .files import Sink, Text
+from .files import Text
 from .instances import CLASSES, AnyInstance, column_names
 from .limits import Lease
 from .program import page, place
@@ -81,56 +79,52 @@ Fit = struct(code=U8, node=I64)
 HANDLE, PLACE = ctypes.POINTER(Handle), ctypes.POINTER(Place)
 # The functions that are called: what each returns, and its arguments.
 FUNCTIONS: dict[str, tuple[Any, ...]] = {
-    "begin": (Status, HANDLE),
-    "feed": (Status, HANDLE, ctypes.c_char_p, SIZE),
-    "finish": (Status, HANDLE),
-    "facts": (Summary, HANDLE),
-    "arc_count": (Count, HANDLE, U8),
-    "next": (Count, HANDLE, U8, PLACE, ADDRESS, SIZE),
-    "items": (Count, HANDLE, PLACE, ADDRESS, SIZE),
-    "lines_begin": (Status, HANDLE),
-    "lines": (Given, HANDLE, ADDRESS, SIZE, ADDRESS, SIZE),
-    "canon": (Status, HANDLE, U8, HANDLE),
-    "text": (Count, HANDLE, SIZE, ctypes.c_char_p, SIZE),
-    "compare": (First, HANDLE, HANDLE),
-    "fits": (Fit, HANDLE, HANDLE),
-    "free": (None, HANDLE),
+    "dnorm_begin": (Status, HANDLE),
+    "dnorm_feed": (Status, HANDLE, ctypes.c_char_p, SIZE),
+    "dnorm_finish": (Status, HANDLE),
+    "dnorm_facts": (Summary, HANDLE),
+    "dnorm_arc_count": (Count, HANDLE, U8),
+    "dnorm_next": (Count, HANDLE, U8, PLACE, ADDRESS, SIZE),
+    "dnorm_items": (Count, HANDLE, PLACE, ADDRESS, SIZE),
+    "dnorm_lines_begin": (Status, HANDLE),
+    "dnorm_lines": (Given, HANDLE, ADDRESS, SIZE, ADDRESS, SIZE),
+    "dnorm_canon": (Status, HANDLE, U8, HANDLE),
+    "dnorm_text": (Count, HANDLE, SIZE, ctypes.c_char_p, SIZE),
+    "dnorm_compare": (First, HANDLE, HANDLE),
+    "dnorm_fits": (Fit, HANDLE, HANDLE),
+    "dnorm_free": (None, HANDLE),
 }
 
 
-class Library:
-    """The library in this file. Raises OSError or AttributeError for another file, and for a library of an interface
-    that lacks a function."""
-
-    def __init__(self, path: str) -> None:
-        self.path, self._loaded = path, ctypes.CDLL(path)
-        for name, (result, *arguments) in FUNCTIONS.items():
-            call = getattr(self, name)
-            call.restype, call.argtypes = result, arguments
-
-    def __getattr__(self, name: str) -> Any:
-        return getattr(self._loaded, f"dnorm_{name}")
+def called(path: str) -> Any:
+    """Returns the library in this file. Raises OSError or AttributeError for another file, and for a library of an
+    interface that lacks a function."""
+    found = ctypes.CDLL(path)
+    for name, (result, *arguments) in FUNCTIONS.items():
+        call = getattr(found, name)
+        call.restype, call.argtypes = result, arguments
+    return found
 
 
 def find_library() -> str:
     """Returns the path of the library by which texts are read: that of `$DNORM_LIBRARY`, or else the one that came with
     this package. Raises `NoLibrary` if there is none, or if it cannot be used."""
-    return library().path
+    return str(library()._name)
 
 
-def library() -> Library:
+def library() -> Any:
     return loaded(os.environ.get("DNORM_LIBRARY", ""))
 
 
 @functools.lru_cache(maxsize=None)
-def loaded(named: str) -> Library:
+def loaded(named: str) -> Any:
     """Returns the library of this path, or if there is no path the one that came with this package. Raises NoLibrary if
     there is none."""
     error = NoLibrary(NAME, f"it is not there; {page()} says where to get it")
     places = [*((name, "") for name in NAMES), *((NAME, it) for it in PLACES)]
     for path in [os.path.abspath(named)] if named else filter(os.path.exists, starmap(place, places)):
         try:
-            return Library(path)
+            return called(path)
         except (OSError, AttributeError) as reason:
             error = NoLibrary(path, str(reason))
     raise error
@@ -140,51 +134,41 @@ class Held:
     """An instance that the library has read of a text: its kind, `nodes`, the numbers of counted `lines` that were read
     and of `pairs` with arcs, and its numbers as columns. Calls take the lease that may go on after the instance."""
 
-    def __init__(self, found: Library, handle: Any, text: Text, lease: Lease) -> None:
+    def __init__(self, found: Any, handle: Any, text: Text, lease: Lease) -> None:
         self._library, self._handle, self._text, self._lease = found, handle, text, lease
-        facts = found.facts(handle)
+        facts = found.dnorm_facts(handle)
         self.kind = KINDS[facts.kind]
         self.nodes, self.lines, self.pairs = int(facts.nodes), int(facts.lines), int(facts.pairs)
         self._item_count = int(facts.items)
 
-    def count(self, form: int) -> int:
-        """Returns the number of canonical arcs in a form, or of the items of a companion."""
-        if self.kind not in GRAPHS:
-            return self._item_count
-        return self._counted(self._library.arc_count(self._handle, form))
+    def count(self, form: Optional[int]) -> int:
+        """Returns the number of canonical arcs in a form; or of items, which are those of a companion, and what a graph
+        has beside its arcs."""
+        is_arcs = form and self.kind in GRAPHS
+        return self._counted(self._library.dnorm_arc_count(self._handle, form)) if is_arcs else self._item_count
 
-    def columns(self, form: int) -> list[Any]:
-        """Returns the columns of the arcs in a form, or of the items of a companion."""
-        width = len(column_names(CLASSES[self.kind]))
-        if self.kind not in GRAPHS:
-            return self._items(width)
-        return self._copied(functools.partial(self._library.next, self._handle, form), self.count(form), 5, width)
+    def columns(self, form: Optional[int], width: int) -> list[Any]:
+        """Returns the first columns of the arcs in a form, or of the items."""
+        columns = [array("q") for _ in range(width)]
+        for numbers, some in self._rooms(form):
+            for number, it in enumerate(columns):
+                it.frombytes(some[number::numbers].tobytes())
+        return [column(it) for it in columns]
 
     def loops(self, form: int) -> int:
         """Returns how many arcs in a form end where they begin."""
-        call, found = functools.partial(self._library.next, self._handle, form), 0
-        for _, some in self._rooms(call, self.count(form), 5):
-            found += sum(map(operator.eq, some[::5], some[1::5]))
-        return found
+        return sum(sum(map(operator.eq, some[::5], some[1::5])) for _, some in self._rooms(form))
 
-    def _items(self, width: int) -> list[Any]:
-        """Returns the first columns of the items, which have three numbers each."""
-        return self._copied(functools.partial(self._library.items, self._handle), self._item_count, 3, width)
-
-    def _copied(self, call: Any, count: int, numbers: int, width: int) -> list[Any]:
-        """Returns the first columns of what a call copies from place to place, each with so many numbers."""
-        columns = [room_for(count) for _ in range(width)]
-        for done, some in self._rooms(call, count, numbers):
-            for number, it in enumerate(columns):
-                memoryview(it)[done : done + len(some) // numbers] = some[number::numbers]
-        return [column(it) for it in columns]
-
-    def _rooms(self, call: Any, count: int, numbers: int) -> Iterator[tuple[int, memoryview]]:
-        """Yields what a call copies from place to place, room by room, and how much came before."""
-        place, room = Place(), room_for(numbers * min(count, ROOM))
+    def _rooms(self, form: Optional[int]) -> Iterator[tuple[int, memoryview]]:
+        """Yields the arcs in a form, or the items, room by room: how many numbers each has, and the numbers."""
+        is_arcs, count = form and self.kind in GRAPHS, self.count(form)
+        items = functools.partial(self._library.dnorm_items, self._handle)
+        call = functools.partial(self._library.dnorm_next, self._handle, form) if is_arcs else items
+        place, numbers = Place(), 5 if is_arcs else 3
+        room = zeros(numbers * min(count, ROOM))
         for done in range(0, count, ROOM):
             more = self._counted(call(ctypes.byref(place), room.buffer_info()[0], min(ROOM, count - done)))
-            yield done, memoryview(room)[: numbers * more]
+            yield numbers, memoryview(room)[: numbers * more]
             self._text.limit.left()
 
     def _counted(self, found: Any) -> int:
@@ -195,15 +179,15 @@ class Held:
 
     def canonical(self, form: int) -> Iterator[bytes]:
         """Yields the canonical text in a form, in pieces."""
-        free, text = self._library.free, Handle()
+        free, text = self._library.dnorm_free, Handle()
         lease = Lease(lambda: free(ctypes.byref(text)))
         try:
-            make = functools.partial(self._library.canon, self._handle, form, ctypes.byref(text))
+            make = functools.partial(self._library.dnorm_canon, self._handle, form, ctypes.byref(text))
             status = self._text.limit.during(make, self._lease, lease)
             if status.code != FINE:
                 raise error_of(status, self._text)
             at, room = 0, ctypes.create_string_buffer(BYTES)
-            while more := self._library.text(ctypes.byref(text), at, room, BYTES).count:
+            while more := self._library.dnorm_text(ctypes.byref(text), at, room, BYTES).count:
                 self._text.limit.left()
                 yield ctypes.string_at(room, more)
                 at += more
@@ -218,20 +202,20 @@ class Held:
 
     def instance(self, form: int) -> AnyInstance:
         """Returns the instance, which keeps the columns."""
-        values: dict[str, Any] = dict(zip(column_names(CLASSES[self.kind]), map(Own, self.columns(form))))
+        names = column_names(CLASSES[self.kind])
+        values: dict[str, Any] = dict(zip(names, map(Own, self.columns(form, len(names)))))
         if self.kind in GRAPHS:
             values["nodes"] = self.nodes
-            # What a graph has beside its arcs.
-            items = [*zip(*(it.tolist() for it in self._items(2)))]
+            items = [*zip(*(it.tolist() for it in self.columns(None, 2)))]
         if self.kind == "min":
             values["supplies"] = dict(items)
         if self.kind == "max":
             values["source"], values["sink"] = items[0]
         return cast(AnyInstance, CLASSES[self.kind](**values))
 
-    def first_difference(self, right: Held) -> Same | AnyDifference:
+    def first_difference(self, right: "Held") -> Union[Same, AnyDifference]:
         """Returns where this instance and another one first differ."""
-        compare = functools.partial(self._library.compare, self._handle, right._handle)
+        compare = functools.partial(self._library.dnorm_compare, self._handle, right._handle)
         found = self._text.limit.during(compare, self._lease, right._lease)
         what = WHAT[found.what]
         if what == "same":
@@ -247,9 +231,9 @@ class Held:
             made = Difference(what, one, other, node=node, place=found.index if what == "item" else None)
         return cast(AnyDifference, made)
 
-    def check_fit(self, companion: Held) -> None:
+    def check_fit(self, companion: "Held") -> None:
         """Raises `Refused` if a companion does not fit this graph."""
-        found, text = self._library.fits(self._handle, companion._handle), companion._text
+        found, text = self._library.dnorm_fits(self._handle, companion._handle), companion._text
         if found.code != FINE:
             raise refused(text, None, found.code, found.node if found.code == NOT_IN_GRAPH else None)
 
@@ -258,25 +242,22 @@ def number_of(value: Any) -> Any:
     return (value.high << 64) + value.low if value.known else None
 
 
-def room_for(size: int) -> array[int]:
-    return array("q", [0]) * size
-
-
-class LinesRead:
+class LinesRead(contextlib.ExitStack):
     """Reads the arc lines of a text by the library, which has taken its pieces before."""
 
     def __init__(self) -> None:
+        super().__init__()
         self._library, self._handle = library(), Handle()
-        self._columns = [array("q") for _ in range(6)]
-        self._room = room_for(6 * ROOM)
-        if self._library.lines_begin(ctypes.byref(self._handle)).code != FINE:
+        self._columns, self._room = [array("q") for _ in range(6)], zeros(6 * ROOM)
+        if self._library.dnorm_lines_begin(ctypes.byref(self._handle)).code != FINE:
             raise MemoryError
+        self.callback(self._library.dnorm_free, ctypes.byref(self._handle))
 
     def take(self, piece: bytes) -> None:
         address, done = ctypes.cast(ctypes.c_char_p(piece), ADDRESS).value or 0, 0
         handle, to, some = ctypes.byref(self._handle), self._room.buffer_info()[0], memoryview(self._room)
         while done < len(piece):
-            given = self._library.lines(handle, address + done, len(piece) - done, to, ROOM)
+            given = self._library.dnorm_lines(handle, address + done, len(piece) - done, to, ROOM)
             # A line that is refused by itself was refused before.
             if given.code != FINE:
                 break
@@ -289,23 +270,19 @@ class LinesRead:
         self.take(b"\n")
         return [column(it) for it in self._columns]
 
-    def free(self) -> None:
-        self._library.free(ctypes.byref(self._handle))
-
 
 @contextlib.contextmanager
-def held(text: Text, lines: LinesRead | Sink | None = None) -> Iterator[Held]:
-    """Reads a text, of whose pieces its arc lines or a copy are made if they are wanted, and frees its instance at the
-    end."""
+def held(text: Text, take: Optional[Callable[[bytes], object]] = None) -> Iterator[Held]:
+    """Reads a text, whose pieces `take` gets as well, and frees its instance at the end."""
     found, handle = library(), Handle()
     address = ctypes.byref(handle)
-    lease = Lease(lambda: found.free(address))
+    lease = Lease(lambda: found.dnorm_free(address))
     try:
-        status = found.begin(address)
+        status = found.dnorm_begin(address)
         if status.code == FINE:
-            status = fed(found, address, text, lines)
+            status = fed(found, address, text, take)
         if status.code == FINE:
-            status = text.limit.during(functools.partial(found.finish, address), lease)
+            status = text.limit.during(functools.partial(found.dnorm_finish, address), lease)
         if status.code != FINE:
             raise error_of(status, text)
         text.limit.left()
@@ -314,7 +291,7 @@ def held(text: Text, lines: LinesRead | Sink | None = None) -> Iterator[Held]:
         lease.end()
 
 
-def fed(found: Library, address: Any, text: Text, lines: LinesRead | Sink | None) -> Any:
+def fed(found: Any, address: Any, text: Text, take: Optional[Callable[[bytes], object]]) -> Any:
     """Feeds a text to a reader, to its end or to its first fault, and returns the status of the last piece. A
     compressed file is read to its end, since only the end tells whether its lines are right."""
     status, size = Status(), 0
@@ -324,10 +301,10 @@ def fed(found: Library, address: Any, text: Text, lines: LinesRead | Sink | None
         if size >= ENDLESS:
             raise Endless(text.name)
         if status.code == FINE:
-            status = found.feed(address, piece, len(piece))
-            if lines and status.code == FINE:
-                lines.take(piece)
-        if status.code != FINE and not text.is_compressed:
+            status = found.dnorm_feed(address, piece, len(piece))
+            if take and status.code == FINE:
+                take(piece)
+        if status.code != FINE and not text.ending:
             break
     text.stay_same()
     return status
@@ -339,6 +316,6 @@ def error_of(status: Any, text: Text) -> DnormError:
     return refused(text, status.line if status.place == AT_LINE else None, status.code)
 
 
-def refused(text: Text, line: int | None, number: int, node: int | None = None) -> Refused:
+def refused(text: Text, line: Optional[int], number: int, node: Optional[int] = None) -> Refused:
     """Returns a refusal of a text, with its cause if that can be found."""
     return Refused(text.name, line, number, REFUSALS[number][0], node, *(text.cause(line, number, node) or ()))

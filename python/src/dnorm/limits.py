@@ -1,22 +1,25 @@
-"""How long a call may take."""
-
-from __future__ import annotations
+"""How long a call may take, and tasks that run at the same time."""
 
 import contextlib
 import numbers
 import select
 import threading
 import time
-from collections.abc import Callable, Iterator
-from concurrent.futures import ThreadPoolExecutor
-from typing import Any, BinaryIO, TypeVar
+from collections.abc import Callable, Iterator, Sequence
+from concurrent.futures import Future, wait
+from queue import Empty, SimpleQueue
+from typing import Any, BinaryIO, Generic, Optional, TypeVar, Union
 
 from .errors import Memory, TimedOut
 
 Result = TypeVar("Result")
 Other = TypeVar("Other")
+Item = TypeVar("Item")
 # The longest limit, some 30 years, which all calls of the system take; and the longest wait of one call of poll.
 LONGEST, WAIT = 10**9, 10**6
+# How many tasks begin before the result of the first one is taken, and the longest wait, in seconds: a signal that
+# comes just before a wait does not end it.
+AHEAD, PAUSE = 1000, 0.1
 
 
 class Lease:
@@ -49,13 +52,13 @@ def check_seconds(seconds: Any) -> None:
 class Limit:
     """So many seconds from now, or no limit. `name` is what the error of a call calls its file."""
 
-    def __init__(self, seconds: float | None, name: str) -> None:
+    def __init__(self, seconds: Optional[float], name: str) -> None:
         if seconds is not None:
             check_seconds(seconds)
         self.seconds, self.name = seconds, name
         self._end = None if seconds is None else time.monotonic() + seconds
 
-    def left(self) -> float | None:
+    def left(self) -> Optional[float]:
         """Returns the seconds that are left. Raises TimedOut if there are none."""
         if self._end is None or self.seconds is None:
             return None
@@ -70,29 +73,14 @@ class Limit:
         left = self.left()
         if left is None:
             return call()
-        found: list[Result] = []
-        has_ended = threading.Event()
-
-        def run() -> None:
-            try:
-                found.append(call())
-            finally:
-                for it in leases:
-                    it.end()
-                has_ended.set()
-
-        for it in leases:
-            it.take()
         try:
-            with heeding_signals():
-                threading.Thread(target=run, daemon=True).start()
+            later = begun(call, *leases)
         except RuntimeError as error:
-            # The system lets no more threads start.
             raise Memory(self.name) from error
         with heeding_signals():
-            has_ended.wait(left)
+            wait([later], left)
         self.left()
-        return found[0]
+        return later.result()
 
 
 @contextlib.contextmanager
@@ -107,23 +95,46 @@ def heeding_signals() -> Iterator[None]:
         raise
 
 
+def begun(call: Callable[[], Result], *leases: Lease) -> Future[Result]:
+    """Begins a call in a thread, which nothing waits for at the end, and keeps what it uses until then. Raises
+    RuntimeError if the system lets no more threads start."""
+    found: Future[Result] = Future()
+
+    def used() -> Result:
+        try:
+            return call()
+        finally:
+            for it in leases:
+                it.end()
+
+    def run() -> None:
+        try:
+            found.set_result(used())
+        except BaseException as error:
+            found.set_exception(error)
+
+    for it in leases:
+        it.take()
+    with heeding_signals():
+        threading.Thread(target=run, daemon=True).start()
+    return found
+
+
 def at_once(one: Callable[[], Result], other: Callable[[], Other], end: Callable[[], None]) -> tuple[Result, Other]:
     """Returns what two calls return, the second of which a thread makes meanwhile. Raises what the first one raises, if
     it does, and else what the second one does. `end` makes the second one end soon."""
-    # What the thread reads must not be closed before it ends, for which the pool waits.
-    with ThreadPoolExecutor(1) as pool:
-        try:
-            try:
-                with heeding_signals():
-                    later = pool.submit(other)
-            except RuntimeError:
-                # The system lets no more threads start.
-                return one(), other()
-            with heeding_signals():
-                return one(), later.result()
-        except BaseException:
-            end()
-            raise
+    try:
+        later = begun(other)
+    except RuntimeError:
+        return one(), other()
+    try:
+        with heeding_signals():
+            return one(), later.result()
+    except BaseException:
+        end()
+        # What the thread reads must not be closed before it ends.
+        wait([later])
+        raise
 
 
 class Timed:
@@ -148,3 +159,64 @@ class Timed:
         data = self._file.read(size)
         Timed.read_bytes += len(data or b"")
         return data
+
+
+class Workers(Generic[Item, Result]):
+    """Threads that run a task on each of these items, at most `jobs` of them. Nothing waits for their end, since a
+    thread may wait for a file without end. No task returns an exception."""
+
+    def __init__(self, task: Callable[[Item], Result], items: Sequence[Item], jobs: int) -> None:
+        self._task, self._items, self._jobs = task, items, jobs
+        self._begun = self._threads = 0
+        self._is_stopped = False
+        self._wanted: SimpleQueue[int] = SimpleQueue()
+        self._came: SimpleQueue[tuple[int, Union[Result, BaseException]]] = SimpleQueue()
+        self._done: dict[int, Union[Result, BaseException]] = {}
+
+    def _begin(self) -> None:
+        """Begins the next item: in another thread while there may be more of them. Where the system lets no more start,
+        those that there are do all."""
+        self._wanted.put(self._begun)
+        self._begun += 1
+        if self._threads < self._jobs:
+            try:
+                with heeding_signals():
+                    threading.Thread(target=self._work, daemon=True).start()
+                self._threads += 1
+            except (RuntimeError, MemoryError):
+                self._jobs = self._threads
+
+    def _work(self) -> None:
+        while not self._is_stopped:
+            self._do(self._wanted.get())
+
+    def _do(self, at: int) -> None:
+        try:
+            self._came.put((at, self._task(self._items[at])))
+        except BaseException as error:
+            self._came.put((at, error))
+
+    def result(self, at: int, idle: Callable[[], None] = lambda: None) -> Result:
+        """Returns the result of this item, or raises what its task has raised. Results are asked for in the order of
+        the items. `idle` is called again and again during a long wait."""
+        while self._begun < min(at + AHEAD, len(self._items)):
+            self._begin()
+        while at not in self._done:
+            if not self._threads:
+                self._do(self._wanted.get())
+            try:
+                place, found = self._came.get(timeout=PAUSE)
+                self._done[place] = found
+            except Empty:
+                idle()
+        found = self._done.pop(at)
+        if isinstance(found, BaseException):
+            raise found
+        return found
+
+    def stop(self) -> list[Result]:
+        """Lets no thread begin another item. Returns the results that were not taken, in the order of the items."""
+        self._is_stopped = True
+        while not self._came.empty():
+            self._done.update([self._came.get()])
+        return [it for _, it in sorted(self._done.items()) if not isinstance(it, BaseException)]

@@ -1,13 +1,12 @@
 """Manifests: the canonical checksums of files, one on a line. With the marks of the files, a manifest also says which
 of them need not be read again."""
 
-from __future__ import annotations
-
 import contextlib
 import hashlib
 import os
 import re
 import time
+from collections import defaultdict
 from collections.abc import Callable, Iterable
 from dataclasses import dataclass
 from typing import NamedTuple, Optional
@@ -61,7 +60,9 @@ def mark_of(name: str) -> Mark:
     return Mark(it.st_size, it.st_mtime_ns, it.st_ctime_ns, it.st_ino, it.st_dev)
 
 
-def renewed(name: str, form: Form, read: Callable[[str], Record], known: Entry | None) -> tuple[Record, Mark | None]:
+def renewed(
+    name: str, form: Form, read: Callable[[str], Record], known: Optional[Entry]
+) -> tuple[Record, Optional[Mark]]:
     """Returns the record of a file, which `read` reads unless the known entry has its mark and this form; and its mark,
     if the file was not written meanwhile, or just before."""
     try:
@@ -87,15 +88,13 @@ def line_with(name: str, before: str = "", after: str = "", more: str = "", *, h
     return ("\\" if (plain, others) != (name, more) else "") + before + plain + after + others + "\n"
 
 
-def name_in(mark: str, plain: str) -> str | None:
+def name_in(mark: str, plain: str) -> Optional[str]:
     """Returns the name that `line_with` has written into a line, or None if it writes no name so. `mark` is the
     backslash that begins the line, if one does."""
-    if not mark:
-        return plain
-    if not re.fullmatch(r"(?:[^\\]|\\[\\nrt])*", plain):
+    if mark and not re.fullmatch(r"(?:[^\\]|\\[\\nrt])*", plain):
         return None
     meant = {written: it for it, written in ESCAPES.items()}
-    return re.sub(r"\\.", lambda it: meant[it[0]], plain)
+    return re.sub(r"\\.", lambda it: meant[it[0]], plain) if mark else plain
 
 
 def sum_of(form: int, line: str) -> str:
@@ -103,7 +102,7 @@ def sum_of(form: int, line: str) -> str:
     return hashlib.sha256(f"{form} ".encode() + os.fsencode(line)).hexdigest()[:16]
 
 
-def text_of(entries: Iterable[Entry], form: int, has_marks: bool = False) -> str:
+def manifest_text(entries: Iterable[Entry], form: int, has_marks: bool = False) -> str:
     """Returns the text of a manifest in one form, with the marks of the files or without them."""
     lines = []
     for it in entries:
@@ -213,13 +212,12 @@ def manifest_changes(old: Manifest, new: Manifest) -> Changes:
     """Returns how a manifest differs from an older one of the same form. Names are compared as they are."""
     if old.form != new.form:
         raise ValueError(f"the manifests are of form {old.form} and of form {new.form}")
-    gone = [it for it in old.checksums if it not in new.checksums]
-    added = [it for it in new.checksums if it not in old.checksums]
+    gone, added = ([it for it in a.checksums if it not in b.checksums] for a, b in ((old, new), (new, old)))
     changed = [it for it, checksum in new.checksums.items() if old.checksums.get(it, checksum) != checksum]
-    places: dict[str, list[str]] = {}
+    places = defaultdict[str, list[str]](list)
     for it in reversed(added):
-        places.setdefault(new.checksums[it], []).append(it)
-    renamed = [(it, places[old.checksums[it]].pop()) for it in gone if places.get(old.checksums[it])]
+        places[new.checksums[it]].append(it)
+    renamed = [(it, places[old.checksums[it]].pop()) for it in gone if places[old.checksums[it]]]
     moved = {name for pair in renamed for name in pair}
     added, gone = ([it for it in names if it not in moved] for names in (added, gone))
     return Changes(tuple(added), tuple(gone), tuple(changed), tuple(renamed))

@@ -1,8 +1,6 @@
 """What the names of files say: the kinds of DIMACS texts, and compressions, by their endings in small letters or
 capitals."""
 
-from __future__ import annotations
-
 import os
 import re
 from collections.abc import Iterable, Sequence
@@ -24,16 +22,15 @@ OTHERS |= {it: it for it in (".gzip", ".bzip2", ".bz", ".zstd", ".tgz", ".tbz", 
 
 def ending_of(name: str) -> str:
     """Returns the ending of a name in small letters, as `.gz`. Dots that begin a name begin no ending."""
-    before, dot, ending = name[name.rfind("/") + 1 :].rpartition(".")
-    return f".{ending.lower()}" if dot and before.strip(".") else ""
+    return os.path.splitext(name)[1].lower()
 
 
 def parts_of(name: str) -> tuple[str, str]:
     """Returns the name of a text without its ending, and the ending, both without that of a compression."""
-    ending = ending_of(name)
-    plain = name[: -len(ending)] if ending in COMPRESSIONS or ending in OTHERS else name
-    ending = ending_of(plain)
-    return plain[: len(plain) - len(ending)], ending
+    plain, ending = os.path.splitext(name)
+    if ending.lower() in (*COMPRESSIONS, *OTHERS):
+        plain, ending = os.path.splitext(plain)
+    return plain, ending.lower()
 
 
 def is_text(name: str, endings: Sequence[str] = ENDINGS) -> bool:
@@ -43,11 +40,11 @@ def is_text(name: str, endings: Sequence[str] = ENDINGS) -> bool:
 
 def packed_of(name: str) -> tuple[str, str]:
     """Returns a name without the endings of compressions, and these endings."""
-    ending = ending_of(name)
-    if ending not in COMPRESSIONS and ending not in OTHERS:
+    plain, ending = os.path.splitext(name)
+    if ending.lower() not in (*COMPRESSIONS, *OTHERS):
         return name, ""
-    plain, packed = packed_of(name[: -len(ending)])
-    return plain, packed + ending
+    plain, packed = packed_of(plain)
+    return plain, packed + ending.lower()
 
 
 def unknown_compression(name: str) -> str:

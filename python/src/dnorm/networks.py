@@ -1,7 +1,5 @@
 """Instances from graphs of networkx and matrices of scipy."""
 
-from __future__ import annotations
-
 from array import array
 from collections.abc import Callable
 from typing import Any, Literal, Optional, TypeVar, Union, overload
@@ -114,13 +112,13 @@ def check_terminals(made: type[Graph], ends: dict[str, Optional[int]]) -> None:
 Edges = list[tuple[Any, Any, dict[str, Any]]]
 
 
-def of_edges(what: str, edges: Edges, numbers: list[Any]) -> array[int]:
+def of_edges(what: str, edges: Edges, numbers: list[Any]) -> "array[int]":
     """Returns what edges have, a number each. Errors name the edge, and call its number by this name."""
     name = "the {} of the edge from {} to {} is {!r}".format
     return numbers_of(numbers, lambda place: name(what, *edges[place][:2], numbers[place]))
 
 
-def weights_of(edges: Edges, weight: Weight, default: int) -> array[int]:
+def weights_of(edges: Edges, weight: Weight, default: int) -> "array[int]":
     """Returns the weights of edges. Without a weight, each is the default."""
     if weight is None:
         return array("q", [default]) * len(edges)

@@ -1,7 +1,5 @@
 """All differences between two texts, by the pairs of their instances."""
 
-from __future__ import annotations
-
 import contextlib
 from array import array
 from collections import Counter
@@ -76,7 +74,7 @@ class Rows(NamedTuple):
     keys: list[Any]
     values: list[Any]
 
-    def kept(self, mask: Any) -> Rows:
+    def kept(self, mask: Any) -> "Rows":
         """Returns the rows for which an array of numpy is true."""
         return Rows([it[mask] for it in self.keys], [it[mask] for it in self.values])
 
@@ -99,7 +97,7 @@ def arcs_around(it: Graph, node: int) -> dict[Key, Arcs]:
     return {key: tuple(arc for _, arc in group) for key, group in groupby(arcs, itemgetter(0))}
 
 
-def paired(left: Instance, right: Instance, limit: int | None, time: Limit) -> dict[str, Any]:
+def paired(left: Instance, right: Instance, limit: Optional[int], time: Limit) -> dict[str, Any]:
     """Returns how the pairs of two instances of one kind differ, as attributes of `Differences`, with at most `limit`
     of the differing pairs. The instances are those of canonical texts. With numpy, pairs that are the same are left out
     first, which takes less time."""
@@ -129,8 +127,12 @@ def paired(left: Instance, right: Instance, limit: int | None, time: Limit) -> d
     # Those whose opposite with the same arcs only the right text has.
     others = {it.key[::-1]: it.right for it in alone if not it.left and isinstance(left, Graph)}
     turned = tuple(it.key for it in alone if it.left and others.get(it.key) == it.left)
-    pairs = tuple((shared + alone)[:limit])
-    return {**counts, "fields": tuple(fields.most_common()), "reversed": turned, "pairs": pairs}
+    pairs, supplies = tuple((shared + alone)[:limit]), 0
+    if isinstance(left, Min) and isinstance(right, Min):
+        # No flow is 0, so a node that one text alone has differs.
+        supplies = len(dict(left.supplies.items() ^ right.supplies.items()))
+    told = {"fields": tuple(fields.most_common()), "reversed": turned, "pairs": pairs, "supplies": supplies}
+    return {**counts, **told}
 
 
 def without_same(np: Any, left: Rows, right: Rows, time: Limit) -> tuple[Rows, Rows, int]:
@@ -229,28 +231,18 @@ def differences(
     time = Limit(timeout, name_of(left))
     with enough_memory(time.name), contextlib.ExitStack() as later, contextlib.ExitStack() as sooner:
         one, other = both_read((left, right), (sooner, later), time)
-        first, both = one.first_difference(other), one.pairs if one.kind in GRAPHS else one.lines
+        first, count = one.first_difference(other), one.pairs if one.kind in GRAPHS else one.lines
         ours = theirs = one.instance(2)
         # The library keeps the left text no longer than it is needed.
         sooner.close()
         if not first:
             theirs = other.instance(2)
         later.close()
-        same = Differences(first, ours, theirs, ours.kind, both=both)
-        found = same if first else summary(first, ours, theirs, limit, time)
+        more: dict[str, Any] = {"kind": ours.kind, "both": count} if first else {}
+        if not first and ours.kind == theirs.kind:
+            # What a kind does not have is None on both sides.
+            both = ((it, getattr(ours, it, None), getattr(theirs, it, None)) for it in ("nodes", "source", "sink"))
+            more = {"kind": ours.kind, "values": tuple(it for it in both if it[1] != it[2])}
+            more |= paired(ours, theirs, limit, time)
+        found = Differences(first, ours, theirs, **more)
     return found
-
-
-def summary(
-    first: Same | AnyDifference, left: AnyInstance, right: AnyInstance, limit: int | None, time: Limit
-) -> Differences:
-    if left.kind != right.kind:
-        return Differences(first, left, right)
-    counted, supplies = paired(left, right, limit, time), 0
-    if isinstance(left, Min) and isinstance(right, Min):
-        # No flow is 0, so a node that one text alone has differs.
-        supplies = len(dict(left.supplies.items() ^ right.supplies.items()))
-    # What a kind does not have is None on both sides.
-    both = ((name, *(getattr(it, name, None) for it in (left, right))) for name in ("nodes", "source", "sink"))
-    values: Any = tuple(it for it in both if it[1] != it[2])
-    return Differences(first, left, right, left.kind, supplies=supplies, values=values, **counted)

@@ -1,7 +1,5 @@
 """Where the program, pages and other files are that commands need, and how many processors there are."""
 
-from __future__ import annotations
-
 import os
 import shutil
 from collections.abc import Sequence
@@ -19,17 +17,17 @@ WEB = ["", "../../../web", "../../web", "../../../../share/dnorm/web"]
 def find_program() -> str:
     """Returns the path of the program dnorm: the one that came with this package, or else the first one on `PATH`.
     Raises `NoProgram` if it is not there."""
-    found = placed("dnorm", PROGRAMS) or on_path("dnorm")
-    if not found:
-        raise NoProgram("dnorm", "there is no such program on PATH")
-    return found
+    return placed("dnorm", PROGRAMS) or on_path("dnorm")
 
 
-def on_path(name: str) -> str | None:
+def on_path(name: str) -> str:
     """Returns the path of a command that is on `PATH`. The folders of `PATH` that depend on the current one are passed
-    over, since that may have files of any name."""
+    over, since that may have files of any name. Raises `NoProgram` if it is not there."""
     folders = filter(os.path.isabs, os.environ.get("PATH", os.defpath).split(os.pathsep))
-    return shutil.which(name, path=os.pathsep.join(folders) or os.devnull)
+    found = shutil.which(name, path=os.pathsep.join(folders) or os.devnull)
+    if not found:
+        raise NoProgram(name, "there is no such program on PATH")
+    return found
 
 
 def page() -> str:

@@ -1,7 +1,5 @@
 """What reading a file once tells: its record. `dnorm-files` prints records, and views of them."""
 
-from __future__ import annotations
-
 import contextlib
 import functools
 import json
@@ -14,7 +12,7 @@ from operator import mul
 from typing import Any, Literal, NamedTuple, Optional, Union
 
 from .answers import Form
-from .calls import SummedText, forms_of
+from .calls import Sum, forms_of
 from .columns import Column, least_and_greatest, numpy_here
 from .errors import DnormError, Read, Refused
 from .files import Bounds, Copied, Text, enough_memory, reason_of
@@ -26,10 +24,6 @@ from .pairs import VALUES
 
 # The ends of the names of graphs that have companions.
 WITH_COMPANIONS = (".gr", ".sp")
-# The numbers of bits that readers and solvers have for a number without its sign.
-BITS = (31, 32, 53)
-# A graph with more nodes than so many for each arc has few nodes with arcs.
-SPARSE = 10
 # What a record has of a canonical text besides its checksum.
 SIZES = ("bytes", "nodes", "declared", "canonical", "merged", "self_loops")
 
@@ -164,9 +158,6 @@ class Partners:
             elif ending in COMPANIONS:
                 self.companions[stem_of(name)].append(name)
 
-    def companions_of(self, name: str) -> list[str]:
-        return self.companions.get(stem_of(name), []) if parts_of(name)[1] in WITH_COMPANIONS else []
-
     def graphs_of(self, name: str) -> Optional[list[str]]:
         """Returns the graphs of a companion, those of its own name if there are some, and None for any other file."""
         stem, ending = parts_of(name)
@@ -193,7 +184,11 @@ class Reading:
         start = time.monotonic()
         try:
             with enough_memory(name):
-                found = self._accepted(name)
+                found = self._read(name, self.partners.graphs_of(name) if self.partners else None)
+            expected = KINDS.get(parts_of(name)[1], found.kind)
+            found = found if expected == found.kind else found._replace(named=expected)
+            if self.is_strict and found.remarks:
+                raise Read(name, f"accepted {found.kind}, {', '.join(found.remarks)}")
         except DnormError as error:
             found = Record(name, error=error)
         except OSError as error:
@@ -201,35 +196,25 @@ class Reading:
             found = Record(name, error=Read(name, reason_of(error)))
         return found._replace(seconds=time.monotonic() - start)
 
-    def _accepted(self, name: str) -> Record:
-        found = self._read(name, self.partners.graphs_of(name) if self.partners else None)
-        expected = KINDS.get(parts_of(name)[1], found.kind)
-        if expected != found.kind:
-            found = found._replace(named=expected)
-        if self.is_strict and found.remarks:
-            raise Read(name, f"accepted {found.kind}, {', '.join(found.remarks)}")
-        return found
-
     def _read(self, name: str, graphs: Optional[Sequence[str]]) -> Record:
         limit = Limit(self.timeout, name)
         with contextlib.ExitStack() as stack:
-            is_whole = self.tells in ("whole", "contents")
-            text = (SummedText if is_whole else Text)(Copied() if name == "-" else name, stack, limit, self.bounds)
-            it = stack.enter_context(held(text))
-            found, checksum = Record(name, it.kind), functools.cache(it.checksum)
+            own, is_whole = Sum(), self.tells in ("whole", "contents")
+            text = Text(Copied() if name == "-" else name, stack, limit, self.bounds)
+            it = stack.enter_context(held(text, own.take) if is_whole else held(text))
+            told, checksum = dict[str, Any](), functools.cache(it.checksum)
             if self.tells != "kind":
-                found = found._replace(checksum=checksum(self.form))
-            if isinstance(text, SummedText):
-                found = found._replace(forms=forms_of(it.kind, text.checksum, checksum))
-                found = found._replace(bytes=text.size, declared=it.lines, canonical=it.count(self.form))
-                if it.kind in GRAPHS:
-                    loops = it.loops(self.form)
-                    found = found._replace(nodes=it.nodes, merged=it.lines - it.pairs, self_loops=loops)
+                told["checksum"] = checksum(self.form)
+            if is_whole:
+                told |= {"bytes": text.size, "declared": it.lines, "canonical": it.count(self.form)}
+                told["forms"] = forms_of(it.kind, own.checksum, checksum)
+            if is_whole and it.kind in GRAPHS:
+                told |= {"nodes": it.nodes, "merged": it.lines - it.pairs, "self_loops": it.loops(self.form)}
             if self.tells == "contents":
-                found = found._replace(contents=contents_of(it.instance(self.form)))
+                told["contents"] = contents_of(it.instance(self.form))
             if graphs is not None:
-                fits, others = self._fitting(graphs, it, limit)
-                found = found._replace(graphs=fits, not_accepted=others)
+                told["graphs"], told["not_accepted"] = self._fitting(graphs, it, limit)
+            found = Record(name, it.kind, **told)
         return found
 
     def _fitting(self, graphs: Iterable[str], it: Held, limit: Limit) -> tuple[tuple[str, ...], tuple[str, ...]]:
@@ -253,7 +238,8 @@ def without_arcs(it: Graph) -> int:
     np = numpy_here()
     if np is None:
         return it.nodes - len({*it.tails.tolist(), *it.heads.tolist()})
-    if it.nodes > SPARSE * len(it):
+    # Then few nodes have arcs.
+    if it.nodes > 10 * len(it):
         return it.nodes - len(np.union1d(it.tails, it.heads))
     has_arcs = np.zeros(it.nodes + 1, bool)
     has_arcs[it.tails] = has_arcs[it.heads] = True
@@ -261,18 +247,18 @@ def without_arcs(it: Graph) -> int:
 
 
 def contents_of(it: AnyInstance) -> Contents:
-    columns: dict[str, Union[Column, list[int]]] = {}
-    found = Contents(without_arcs(it) if isinstance(it, Graph) else None, None, None, None, None, {})
+    columns: dict[str, Any] = {}
+    costly = supply = demand = None
     if isinstance(it, Min):
         flows = columns["flow"] = list(it.supplies.values())
         costly = sum(map(mul, it.caps.tolist(), map(abs, it.costs.tolist())))
         supply, demand = sum(flow for flow in flows if flow > 0), -sum(flow for flow in flows if flow < 0)
-        found = found._replace(capacity_times_cost=costly, supply=supply, demand=demand)
     elif isinstance(it, Co):
         columns["id"] = it.ids
     columns.update((field, getattr(it, column)) for field, column in VALUES[it.kind].items())
-    caps: Any = columns.get("cap")
-    return found._replace(capacity=None if caps is None else sum(caps.tolist()), fields=dict(ranges(columns)))
+    capacity = sum(columns["cap"].tolist()) if "cap" in columns else None
+    without = without_arcs(it) if isinstance(it, Graph) else None
+    return Contents(without, capacity, costly, supply, demand, dict(ranges(columns)))
 
 
 def ranges(columns: dict[str, Union[Column, list[int]]]) -> Iterator[tuple[str, Range]]:
@@ -281,4 +267,5 @@ def ranges(columns: dict[str, Union[Column, list[int]]]) -> Iterator[tuple[str, 
         if len(numbers):
             least, greatest = least_and_greatest(numbers)
             bits = max(least.bit_length(), greatest.bit_length())
-            yield field, Range(least, greatest, next((it for it in BITS if bits <= it), 64))
+            # As many bits as readers and solvers have for a number without its sign.
+            yield field, Range(least, greatest, next((it for it in (31, 32, 53) if bits <= it), 64))

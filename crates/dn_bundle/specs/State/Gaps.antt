@@ -2,12 +2,12 @@
 use Rattle.std.specs.Prelude.{◌≡◌, ◌-◌, ◌^◌, ℤ, pos, ◌+ℤ◌, ◌*ℤ◌, ◌≤ℤ◌, List, [], ◌∷◌, Option, Some, None, MatchOption, ◌&&◌, cond, int_lt, slice_get}
 use Rattle.std.specs.Option.{option_map}
 use Rattle.std.specs.Ordering.{int_eq}
-use Rattle.dn_arc.specs.Differences.{IsGap}
-use Rattle.dn_arc.specs.Meanings.{SameCurve}
-use Rattle.dn_arc.specs.declared.arc.CostArc.{CostArc}
-use Rattle.dn_arc.specs.declared.difference.Gap.{Gap}
-use Rattle.dn_arc.specs.State.Means.{IsMean}
-use Rattle.dn_arc.specs.State.Steps.{AreSteps, steps_room}
+use Rattle.dn_arc_theory.specs.Differences.{IsGap}
+use Rattle.dn_arc_theory.specs.Meanings.{SameCurve}
+use Rattle.dn_arc_theory.specs.declared.arc.CostArc.{CostArc}
+use Rattle.dn_arc_theory.specs.declared.difference.Gap.{Gap}
+use Rattle.dn_arc_theory.specs.State.Means.{IsMean}
+use Rattle.dn_arc_theory.specs.State.Steps.{AreSteps, steps_room}
 
 -- the option is the gap between two cost curves, or none if they mean the same
 abbrev pub IsGapOf : List CostArc → List CostArc → Option Gap → Type 0

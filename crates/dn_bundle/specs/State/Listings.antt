@@ -1,15 +1,15 @@
 -- The canonical arcs that each kind of bundle lists.
 use Rattle.std.specs.Prelude.{List}
-use Rattle.dn_arc.specs.declared.arc.LengthArc.{LengthArc}
-use Rattle.dn_arc.specs.declared.arc.CapArc.{CapArc}
-use Rattle.dn_arc.specs.declared.arc.CostArc.{CostArc}
-use Rattle.dn_arc.specs.declared.arc.Form.{Form}
-use Rattle.dn_arc.specs.declared.arc.Form.TheVariants.{One}
+use Rattle.dn_arc_theory.specs.declared.arc.LengthArc.{LengthArc}
+use Rattle.dn_arc_theory.specs.declared.arc.CapArc.{CapArc}
+use Rattle.dn_arc_theory.specs.declared.arc.CostArc.{CostArc}
+use Rattle.dn_arc_theory.specs.declared.arc.Form.{Form}
+use Rattle.dn_arc_theory.specs.declared.arc.Form.TheVariants.{One}
 use Rattle.dn_bundle.specs.declared.least.Least.{Least}
 use Rattle.dn_bundle.specs.declared.total.Total.{Total}
 use Rattle.dn_bundle.specs.declared.curve.Curve.{Curve}
-use Rattle.dn_arc.specs.State.SingleArcs.{length_listed, cap_listed}
-use Rattle.dn_arc.specs.State.CurveListed.{listed}
+use Rattle.dn_arc_theory.specs.State.SingleArcs.{length_listed, cap_listed}
+use Rattle.dn_arc_theory.specs.State.CurveListed.{listed}
 
 -- one arc of the least length, or no arc if there is none
 abbrev pub least_arcs : Least → List LengthArc

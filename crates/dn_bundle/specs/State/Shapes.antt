@@ -1,14 +1,14 @@
 -- How a curve stores its numbers: in a box, or as one cost with the forced units and the free capacity at it.
 use Rattle.std.specs.Prelude.{◌≡◌, ◌⊎◌, ◌-◌, ◌^◌, ℕ, ℤ, pos, ◌+ℤ◌, ◌-ℤ◌, ◌*ℤ◌, ◌≤ℤ◌, ◌<ℤ◌, List, [], ◌∷◌, Option, Some, None, cond, int_lt, false}
-use Rattle.dn_arc.specs.declared.arc.CostArc.{CostArc}
+use Rattle.dn_arc_theory.specs.declared.arc.CostArc.{CostArc}
 use Rattle.dn_bundle.specs.declared.curve.shape.Numbers.{Numbers}
 use Rattle.dn_bundle.specs.declared.curve.shape.OneCost.{OneCost}
 use Rattle.dn_bundle.specs.declared.curve.shape.TwoCosts.{TwoCosts}
 use Rattle.dn_bundle.specs.declared.curve.shape.Shape.{Shape}
 use Rattle.dn_bundle.specs.declared.curve.shape.Shape.TheVariants.{Plain, Two, Full}
-use Rattle.dn_arc.specs.State.CurveListed.{IsSound}
-use Rattle.dn_arc.specs.State.Curves.{CurveNumbers}
-use Rattle.dn_arc.specs.State.Steps.{steps_of, add_step, has_step, steps_room}
+use Rattle.dn_arc_theory.specs.State.CurveListed.{IsSound}
+use Rattle.dn_arc_theory.specs.State.Curves.{CurveNumbers}
+use Rattle.dn_arc_theory.specs.State.Steps.{steps_of, add_step, has_step, steps_room}
 
 -- the breakpoint of free capacity at one cost, if there is any
 abbrev pub one_step : ℤ → ℤ → Option (ℤ × ℤ)

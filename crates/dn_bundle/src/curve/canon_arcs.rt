@@ -2,14 +2,14 @@
 ghost use Rattle.std.specs.Prelude.{◌≡◌, ◌+◌, ◌+ℤ◌, length, slice_get, Some, IfSome, Contains, find, cond, int_lt, FitsSigned};
 ghost use Rattle.std.specs.Option.{option_map, ForSome};
 ghost use Rattle.std.specs.Int.{w64};
-ghost use Rattle.dn_arc.specs.State.Bundles.{IsAfter};
-ghost use Rattle.dn_arc.specs.State.Steps.{has_step};
+ghost use Rattle.dn_arc_theory.specs.State.Bundles.{IsAfter};
+ghost use Rattle.dn_arc_theory.specs.State.Steps.{has_step};
 ghost use Rattle.dn_bundle.specs.State.Listings.{curve_arcs, form_one_arcs};
-ghost use Rattle.dn_arc.specs.State.CurveListed.{fixed_arc, fixed_arcs, step_arc, joined_head};
-ghost use Rattle.dn_arc.specs.declared.arc.Form.{Form};
+ghost use Rattle.dn_arc_theory.specs.State.CurveListed.{fixed_arc, fixed_arcs, step_arc, joined_head};
+ghost use Rattle.dn_arc_theory.specs.declared.arc.Form.{Form};
 
 use crate::curve::Curve;
-use dn_arc::{CostArc, Fixed, Form};
+use dn_arc_theory::{CostArc, Fixed, Form};
 
 fn fixed_at(units: i64, cost: i64) -> CostArc
     ensures { result ≡ fixed_arc units cost }

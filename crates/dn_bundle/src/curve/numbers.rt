@@ -1,6 +1,6 @@
 // Reads the numbers of a curve from its shape.
 ghost use Rattle.std.specs.Prelude.{◌≡◌, ◌≤◌, ◌+◌, ◌^◌, length, slice_get};
-ghost use Rattle.dn_arc.specs.State.Steps.{step_past, has_step};
+ghost use Rattle.dn_arc_theory.specs.State.Steps.{step_past, has_step};
 ghost use Rattle.dn_bundle.specs.State.Shapes.{two_steps};
 
 use crate::cost128::cost_of;

@@ -2,12 +2,12 @@
 ghost use Rattle.std.specs.Prelude.{◌≡◌, ℕ, ℤ, pos, ◌+ℤ◌, ◌<ℤ◌, [], ◌∷◌, None, FitsSigned, OnOk, OnErr, IfOk, IsTrue, false};
 ghost use Rattle.std.specs.Int.{w64};
 ghost use Rattle.std.specs.Option.{ForSome};
-ghost use Rattle.dn_arc.specs.Canonical.{IsCostArc};
+ghost use Rattle.dn_arc_theory.specs.Canonical.{IsCostArc};
 ghost use Rattle.dn_bundle.specs.State.Shapes.{one_step, plain, two, free_numbers, shape_numbers, AreSound, IsGrown, LeavesPlain, NeedRoom, StaysPlain};
 
 use crate::cost128::{cost_of, more_cost};
 use crate::steps::Steps;
-use dn_arc::CostArc;
+use dn_arc_theory::CostArc;
 use std::alloc::{AllocError, Global};
 
 /// The numbers of a curve.

@@ -1,7 +1,7 @@
 -- The arcs and items of an instance as C has them, and what walks over a parsed instance copy.
 use Rattle.std.specs.Prelude.{◌≡◌, ◌<◌, pos, List, [], ◌∷◌, map, take, length, flat_map}
-use Rattle.dn_arc.specs.Kinds.{costs, capacities, lengths}
-use Rattle.dn_arc.specs.declared.arc.Form.{Form}
+use Rattle.dn_arc_theory.specs.Kinds.{costs, capacities, lengths}
+use Rattle.dn_arc_theory.specs.declared.arc.Form.{Form}
 use Rattle.dn_bundle.specs.State.Listings.{least_arcs, total_arcs, curve_arcs}
 use Rattle.dn_instance.specs.Instances.{Instance, MinCostFlow, MaxFlow, ShortestPaths, Sources, Queries, Coordinates}
 use Rattle.dn_instance.specs.State.Helds.{Contents, OfMin, OfMax, OfSp}

@@ -1,7 +1,7 @@
 -- The first difference between two instances, as C has it.
 use Rattle.std.specs.Prelude.{◌≡◌, ◌^◌, ◌*ℤ◌, ◌+ℤ◌, ℕ, ℤ, pos, true, false, Option, Some, None}
-use Rattle.dn_arc.specs.declared.difference.How.{How}
-use Rattle.dn_arc.specs.declared.difference.How.TheVariants as Hows
+use Rattle.dn_arc_theory.specs.declared.difference.How.{How}
+use Rattle.dn_arc_theory.specs.declared.difference.How.TheVariants as Hows
 use Rattle.dn_instance.specs.State.Helds.{OfBoth}
 use Rattle.dn_instance.specs.declared.verdict.Verdict.{Verdict}
 use Rattle.dn_instance.specs.declared.verdict.Verdict.TheVariants as Verdicts

@@ -1,8 +1,8 @@
 -- Places in a walk over canonical arcs.
 use Rattle.std.specs.Prelude.{ℕ, ℤ, List, Option, None, Some, cond, nat_eq, min, pos, ◌+◌, ◌-◌, ◌^◌}
-use Rattle.dn_arc.specs.declared.arc.LengthArc.{LengthArc}
-use Rattle.dn_arc.specs.declared.arc.CapArc.{CapArc}
-use Rattle.dn_arc.specs.declared.arc.CostArc.{CostArc}
+use Rattle.dn_arc_theory.specs.declared.arc.LengthArc.{LengthArc}
+use Rattle.dn_arc_theory.specs.declared.arc.CapArc.{CapArc}
+use Rattle.dn_arc_theory.specs.declared.arc.CostArc.{CostArc}
 use Rattle.dn_c.specs.State.Rows.{number_at}
 use Rattle.dn_c.specs.declared.place.Place.{Place}
 

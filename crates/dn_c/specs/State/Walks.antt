@@ -1,6 +1,6 @@
 -- Walks over the canonical arcs of a table, which can go on from any arc.
 use Rattle.std.specs.Prelude.{◌≡◌, ◌+◌, ℕ, ℤ, List, [], ◌∷◌, ◌++◌, take, drop, length, slice_get, Option, None, Some, MatchOption, All, Contains}
-use Rattle.dn_arc.specs.State.Bundles.{IsAfter}
+use Rattle.dn_arc_theory.specs.State.Bundles.{IsAfter}
 use Rattle.dn_canon.specs.State.ListedArcs.{placed, listed_arcs}
 use Rattle.dn_c.specs.State.Places.{last_before}
 use Rattle.dn_c.specs.State.Rows.{rows_by}

@@ -1,6 +1,6 @@
 -- Which graph is the canonical graph of a graph, in each form (this project's profile).
-use Rattle.dn_arc.specs.declared.arc.Form.{Form}
-use Rattle.dn_arc.specs.Kinds.{ArcKind}
+use Rattle.dn_arc_theory.specs.declared.arc.Form.{Form}
+use Rattle.dn_arc_theory.specs.Kinds.{ArcKind}
 use Rattle.dn_instance.specs.Instances.{Graph}
 use Rattle.dn_instance.specs.Sameness.{SameGraph}
 use Rattle.dn_instance.specs.Validity.{IsValidGraph}

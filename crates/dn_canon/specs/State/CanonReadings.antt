@@ -1,6 +1,6 @@
 -- What a canonical text reads as.
 use Rattle.std.specs.Prelude.{◌≡◌, ℕ, List}
-use Rattle.dn_arc.specs.declared.arc.Form.{Form}
+use Rattle.dn_arc_theory.specs.declared.arc.Form.{Form}
 use Rattle.dn_instance.specs.Instances.{Instance}
 use Rattle.dn_instance.specs.Sameness.{IsSame}
 use Rattle.dn_instance.specs.Texts.{Reads}

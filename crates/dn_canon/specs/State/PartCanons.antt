@@ -4,7 +4,7 @@ use Rattle.std.specs.List.{AllByRecursion, flat_map, sum_by}
 use Rattle.dn_line.specs.declared.kind.Kind.TheVariants as Kinds
 use Rattle.dn_line.specs.declared.word.Keyword.TheVariants.{A, S, T}
 use Rattle.dn_sink.specs.Rows.{Cells}
-use Rattle.dn_arc.specs.declared.arc.Form.{Form}
+use Rattle.dn_arc_theory.specs.declared.arc.Form.{Form}
 use Rattle.dn_instance.specs.Instances.{Instance, MinCostFlow, MaxFlow, ShortestPaths, size_of}
 use Rattle.dn_instance.specs.State.Parts.{AreParts, arc_lines}
 use Rattle.dn_canon.specs.CanonInstances.{IsCanonInstanceOf}

@@ -3,8 +3,8 @@ use Rattle.std.specs.Prelude.{◌≡◌, ◌<◌, ◌≤◌, ◌^◌, ℕ, ℤ, 
 use Rattle.std.specs.declared.result.Result.{Result}
 use Rattle.dn_line.specs.declared.word.Keyword.TheVariants.{S, T}
 use Rattle.dn_line.specs.declared.kind.Kind.{Kind}
-use Rattle.dn_arc.specs.State.Bundles.{BundleFacts}
-use Rattle.dn_arc.specs.declared.arc.Form.{Form}
+use Rattle.dn_arc_theory.specs.State.Bundles.{BundleFacts}
+use Rattle.dn_arc_theory.specs.declared.arc.Form.{Form}
 use Rattle.dn_instance.specs.Instances.{Instance, size_of}
 use Rattle.dn_canon.specs.CanonInstances.{IsCanonInstanceOf}
 use Rattle.dn_canon.specs.Prints.{supply_row, terminal_row, graph_rows, print}

@@ -4,12 +4,12 @@ use Rattle.std.specs.BTreeMap.{is_at}
 use Rattle.std.specs.Map.{lookup}
 use Rattle.std.specs.declared.cmp.Ordering.{Ordering}
 use Rattle.std.specs.declared.cmp.Ordering.TheVariants.{Less}
-use Rattle.dn_arc.specs.State.Bundles.{ArcDiffer, listed_of}
-use Rattle.dn_arc.specs.Kinds.{ArcKind}
-use Rattle.dn_arc.specs.declared.difference.How.{How}
+use Rattle.dn_arc_theory.specs.State.Bundles.{ArcDiffer, listed_of}
+use Rattle.dn_arc_theory.specs.Kinds.{ArcKind}
+use Rattle.dn_arc_theory.specs.declared.difference.How.{How}
 use Rattle.dn_instance.specs.State.Helds.{Contents, Shows}
 use Rattle.dn_instance.specs.Instances.{Instance, nodes_of}
-use Rattle.dn_arc.specs.Pairs.{bundle, pair_cmp}
+use Rattle.dn_arc_theory.specs.Pairs.{bundle, pair_cmp}
 use Rattle.dn_instance.specs.Validity.{IsValid}
 use Rattle.dn_compare.specs.Observed.{flow_or_zero, item_at}
 use Rattle.dn_compare.specs.FirstDifference.{Differ, IsFirstDifference}

@@ -1,6 +1,6 @@
 -- What taking an arc does to the bundles of a graph, and what it returns.
 use Rattle.std.specs.Prelude.{◌≡◌, ◌↔◌, ℤ, List, [], ◌∷◌, ◌++◌, Bool, IsTrue, OnOk, Result, Err}
-use Rattle.dn_arc.specs.State.Bundles.{BundleFacts}
+use Rattle.dn_arc_theory.specs.State.Bundles.{BundleFacts}
 use Rattle.dn_table.specs.State.Tables.{AreArcs, GraphNeedsMore, Lists, Stays}
 use Rattle.dn_instance.specs.State.ItemFaults.{AnswersFault, arc_fault}
 use Rattle.dn_instance.specs.declared.refusal.ItemFault.{ItemFault}

@@ -1,6 +1,6 @@
 -- How many entries an instance makes.
 use Rattle.std.specs.Prelude.{ℕ, length}
-use Rattle.dn_arc.specs.Entries.{length_entries, cap_entries, cost_entries}
+use Rattle.dn_arc_theory.specs.Entries.{length_entries, cap_entries, cost_entries}
 use Rattle.dn_table.specs.GraphEntries.{graph_entries}
 use Rattle.dn_instance.specs.Instances.{Instance, MinCostFlow, MaxFlow, ShortestPaths, Sources, Queries, Coordinates}
 

@@ -1,8 +1,9 @@
 -- What the state of a reader represents.
 use Rattle.dn_instance.specs.State.Helds.{Parsed}
-use Rattle.std.specs.Prelude.{◌≡◌, ℕ, ◌≤◌, List, [], ◌∷◌, ◌++◌, length, take, cond, Option, Some, None, MatchOption, MatchResult, Result, Ok, Err}
+use Rattle.std.specs.Prelude.{◌≡◌, ℕ, ◌≤◌, List, [], ◌∷◌, ◌++◌, length, take, cond, true, Option, Some, None, MatchOption, MatchResult, Result, Ok, Err}
 use Rattle.dn_line.specs.Pieces.{parts, lines, is_line_feed}
-use Rattle.dn_line.specs.State.LineStates.{LineSoFar, LineReaderAt, used_of}
+use Rattle.std.specs.List.{list_all}
+use Rattle.dn_line.specs.State.LineStates.{LineSoFar, LineReaderAt, is_inner, used_of}
 use Rattle.dn_line.specs.declared.line_reader.LineReader.{LineReader}
 use Rattle.dn_instance.specs.declared.reader.Reader.{Reader}
 use Rattle.dn_instance.specs.declared.declared.Declared.{Declared}
@@ -13,7 +14,7 @@ use Rattle.dn_instance.specs.State.Declarations.{declared_in}
 use Rattle.dn_instance.specs.EntryCount.{entries_so_far}
 use Rattle.dn_instance.specs.State.ReaderResults.{EntriesBefore, IsRefused, IsNext, lines_taken, refusal_of}
 use Rattle.dn_instance.specs.Texts.{items_of}
-use Rattle.dn_instance.specs.State.TextsSoFar.{TextAt}
+use Rattle.dn_instance.specs.State.TextsSoFar.{ReadsOn, TextAt}
 
 -- the bytes of a text after its last LF
 abbrev pub open_of : List ℕ → List ℕ
@@ -49,6 +50,13 @@ ClosesLine r ls l (Ok x) = TextAt r.text (ls ++ l ∷ [])
 ClosesLine r ls l (Err e) =
     (r.refusal ≡ Some e) × IsRefused (length ls) (ls ++ l ∷ []) e × StopsIn r (ls ++ l ∷ []) e
     × (lines_taken r ≡ length ls)
+
+-- the reader has read all lines before the end, or the next one after those that it has read is refused
+abbrev pub TakesBlock : Reader → List (List ℕ) → (bytes end : List ℕ) → Result (Unit {0}) Refusal → Type 0
+TakesBlock r ls bytes end (Ok x) = ReadsOn r.text ls bytes end
+TakesBlock r ls bytes end (Err e) =
+    (l rest : List ℕ) × (on : ReadsOn r.text ls bytes (l ++ 10 ∷ rest)) × (list_all is_inner l ≡ true)
+    × ClosesLine r (ls ++ on.more) l (Err e)
 
 -- the reader has taken all lines of the text, or the text is refused; memory can run out only at a last line without an
 -- LF

@@ -6,10 +6,10 @@ use Rattle.dn_line.specs.declared.kind.Kind.{Kind}
 use Rattle.dn_line.specs.declared.kind.Kind.TheVariants as Kinds
 use Rattle.dn_line.specs.declared.kind.Letter.TheVariants.{S, T}
 use Rattle.dn_line.specs.declared.line.Line.{Line}
-use Rattle.dn_arc.specs.Kinds.{lengths, capacities, costs}
-use Rattle.dn_arc.specs.Pairs.{pair_cmp, same_pair}
-use Rattle.dn_arc.specs.State.Curves.{CurveNumbers}
-use Rattle.dn_arc.specs.declared.arc.Form.TheVariants.{One}
+use Rattle.dn_arc_theory.specs.Kinds.{lengths, capacities, costs}
+use Rattle.dn_arc_theory.specs.Pairs.{pair_cmp, same_pair}
+use Rattle.dn_arc_theory.specs.State.Curves.{CurveNumbers}
+use Rattle.dn_arc_theory.specs.declared.arc.Form.TheVariants.{One}
 use Rattle.dn_bundle.specs.State.Listings.{least_arcs, total_arcs, curve_arcs}
 use Rattle.dn_bundle.specs.declared.least.Least.{Least}
 use Rattle.dn_bundle.specs.declared.total.Total.{Total}

@@ -1,9 +1,8 @@
 -- What the complete lines so far make, and what the next line reads as after them.
-use Rattle.std.specs.Prelude.{◌≡◌, ℕ, ◌+◌, ◌-◌, ◌^◌, ◌<◌, pos, ◌<ℤ◌, ◌≤ℤ◌, ◌+ℤ◌, List, [], ◌∷◌, ◌++◌, length, take, drop, cond, true, flat_map, Option, Some, None, Result, Ok, Err, IsSome, int_lt}
+use Rattle.std.specs.Prelude.{◌≡◌, ℕ, ◌+◌, ◌-◌, ◌^◌, ◌<◌, pos, ◌<ℤ◌, ◌≤ℤ◌, ◌+ℤ◌, List, [], ◌∷◌, ◌++◌, length, cond, true, false, flat_map, Option, Some, None, Result, Ok, Err, IsSome, int_lt}
 use Rattle.std.specs.List.{list_all, list_any, AllByRecursion}
 use Rattle.std.specs.Option.{option_map}
 use Rattle.dn_line.specs.declared.kind.Kind.{Kind}
-use Rattle.dn_line.specs.declared.kind.Kind.TheVariants.{Max}
 use Rattle.dn_line.specs.declared.line.Head.{Head}
 use Rattle.dn_line.specs.declared.line.Head.TheVariants as Heads
 use Rattle.dn_line.specs.declared.line.Line.{Line}
@@ -20,6 +19,7 @@ use Rattle.dn_line.specs.declared.line_reader.LineReader.{LineReader}
 use Rattle.dn_line.specs.Faults.{first_fault, head_tests, field_tests, fields}
 use Rattle.dn_line.specs.State.Spelling.{slots_of, kind_before}
 use Rattle.dn_line.specs.Reading.{unless, spelled}
+use Rattle.dn_line.specs.State.RowBlocks.{ReadUpTo, last_left}
 use Rattle.dn_line.specs.State.RowItems.{item_of_row}
 use Rattle.dn_instance.specs.Items.{Problem, problem_in, problem_of, kind_known, counted}
 use Rattle.dn_instance.specs.Readers.{SpellsNeed}
@@ -27,11 +27,8 @@ use Rattle.dn_instance.specs.TextFaults.{is_arc, line_fault, line_tests, order_t
 use Rattle.dn_instance.specs.Texts.{items_of, IsClean}
 use Rattle.dn_instance.specs.State.TextParts.{AnyBody, BodyHolds, MarksHold, body_kind, is_graph}
 use Rattle.dn_instance.specs.State.Bodies.{TookRow}
-use Rattle.dn_instance.specs.State.ItemFaults.{AnswersFault}
-use Rattle.dn_instance.specs.State.RowRuns.{HasRoomFor, HasSigns}
+use Rattle.dn_instance.specs.State.RowHeads.{HasRoomFor, HasSigns, run_head}
 use Rattle.dn_instance.specs.declared.refusal.ItemFault.{ItemFault}
-use Rattle.dn_instance.specs.declared.refusal.ItemFault.TheVariants.{Memory}
-use Rattle.dn_instance.specs.declared.text_so_far.RowsTaken.{RowsTaken}
 use Rattle.dn_instance.specs.declared.text_so_far.TextSoFar.{TextSoFar}
 
 -- the kind that the problem line declares; before the problem line, there is none
@@ -103,15 +100,6 @@ TakesRowOf old new head row result =
     let i = item_of_row head (text_kind old) row in
     (before : List Line) → AwaitsRow old before i → TookRow before (HasRead new) i result
 
--- the line of this head is no problem line and no `max` node line
-pub record IsOfRun (t : TextSoFar) (head : Head) : Type 0 where
-  pub no_problem : (kind : Kind) → head ≡ Heads.Problem kind → ⊥
-  pub no_terminal : head ≡ Heads.Node → text_kind t ≡ Some Max → ⊥
-
--- at most as many of these rows as are still to come, if their lines are counted
-abbrev pub RoomFor : Head → List RowLine → TextSoFar → Type 0
-RoomFor head rows t = (head ≡ Heads.Node → ⊥) → pos (length rows) ≤ℤ t.due
-
 -- the next line reads as the item of a row of a line with this head, or it has this fault; a skipped line has the head
 -- `Skip`
 abbrev pub NextRead : Option Kind → List Line → List Word → Result (Head × Row) Code → Type 0
@@ -134,6 +122,15 @@ pub record TextAt (t : TextSoFar) (ls : List (List ℕ)) : Type 0 where
 abbrev pub AfterLines : TextSoFar → LineReader → (List (List ℕ) → List ℕ → Type 0) → Type 0
 AfterLines t r P = (ls : List (List ℕ)) (l : LineSoFar) → TextAt t ls → LineReaderAt r l → P ls l.bytes
 
+-- after these lines, the next line is not skipped, and reads as the item of this row of a line with this head
+pub record IsLineOf (t : TextSoFar) (head : Head) (row : Row) (ls : List (List ℕ)) (l : List ℕ) : Type 0 where
+  pub counts : is_skip (said_words l) ≡ false
+  pub reads : next_read (items_of ls) (said_words l) ≡ Ok (item_of_row head (text_kind t) row)
+
+-- this holds of any lines that the text so far has read and of the next line, if that is the line of this row
+abbrev pub AfterRow : TextSoFar → Head → Row → (List (List ℕ) → List ℕ → Type 0) → Type 0
+AfterRow t head row P = (ls : List (List ℕ)) (l : List ℕ) → TextAt t ls → IsLineOf t head row ls l → P ls l
+
 -- the first fault of a line after these lines
 abbrev pub fault_after : List (List ℕ) → List ℕ → Option Code
 fault_after ls line = line_fault (length ls + 1) (items_of ls) (said_words line)
@@ -150,26 +147,32 @@ closed_lines ls = flat_map (λ l. l ++ 10 ∷ []) ls
 abbrev pub AreInner : List (List ℕ) → Type 0
 AreInner ls = AllByRecursion (λ l. list_all is_inner l ≡ true) ls
 
--- the first of these bytes are a line and its LF, and after the lines `ls` this line has the fault, or spells an item
--- that needs memory
-pub record IsRefusedRow (ls : List (List ℕ)) (bytes : List ℕ) (fault : ItemFault) : Type 0 where
-  pub line : List ℕ
-  pub rest : List ℕ
-  pub whole : line ++ 10 ∷ rest ≡ bytes
-  pub inner : list_all is_inner line ≡ true
-  pub answer : AnswersFault (Err fault) (fault_after ls line)
-  pub needs : fault ≡ Memory → NeedsAfter ls line
-
--- there is no fault, or it is that of the first line of these bytes
-abbrev pub RefusesRow : List (List ℕ) → List ℕ → Option ItemFault → Type 0
-RefusesRow ls bytes None = Unit {0}
-RefusesRow ls bytes (Some fault) = IsRefusedRow ls bytes fault
-
--- the first bytes, as many as were used, are lines, each followed by its LF, and the text so far has read these lines
--- after `ls`; the fault, if there is one, is that of the next line
-pub record ReadsRows (t : TextSoFar) (ls : List (List ℕ)) (bytes : List ℕ) (front : RowsTaken) : Type 0 where
+-- after the lines `ls`, the text so far has read more lines; these, each followed by its LF, and the rest are the bytes
+pub record ReadsOn (t : TextSoFar) (ls : List (List ℕ)) (bytes rest : List ℕ) : Type 0 where
   pub more : List (List ℕ)
-  pub whole : closed_lines more ≡ take front.used bytes
+  pub whole : closed_lines more ++ rest ≡ bytes
   pub inner : AreInner more
   pub read : TextAt t (ls ++ more)
-  pub stops : RefusesRow (ls ++ more) (drop front.used bytes) front.fault
+
+-- if the next lines, at most this many, have this head, none of them has a fault because of the lines before it
+pub record ComeInTime (t : TextSoFar) (head : Head) (most : ℕ) : Type 0 where
+  pub early : head ≡ Heads.Node → t.count ≤ℤ t.due
+  pub room : (head ≡ Heads.Node → ⊥) → pos most ≤ℤ t.due
+
+-- what is left of these bytes begins with the lines of these rows of this head, which come in time, up to the end
+pub record LeftOf (t : TextSoFar) (ls : List (List ℕ)) (bytes end : List ℕ) (head : Head) (rows : List RowLine)
+    : Type 0 where
+  pub kind : Kind
+  pub kind_is : text_kind t ≡ Some kind
+  pub byte : ℕ
+  pub head_is : head ≡ run_head kind byte
+  pub rest : List ℕ
+  pub on : ReadsOn t ls bytes rest
+  pub rows_are : ReadUpTo kind byte rest rows end
+  pub in_time : 0 < length rows → ComeInTime t head (length rows)
+
+-- after any lines that the text so far has read, these bytes begin with the lines of these rows, which come in time
+abbrev pub ReadsBlock : TextSoFar → Head → List ℕ → List RowLine → Type 0
+ReadsBlock t head bytes rows =
+    (ls : List (List ℕ)) → TextAt t ls
+    → (end : List ℕ) × LeftOf t ls bytes end head rows × (last_left (length bytes) rows ≡ length end)

@@ -3,15 +3,15 @@
 use Rattle.std.proofs.Common.{arith, rules}
 use Rattle.std.proofs.lemmas.Int.{ints}
 use Rattle.std.specs.Prelude.{pos, List, [], ◌∷◌, refl}
-use Rattle.dn_arc.specs.declared.arc.CostArc.{CostArc}
-use Rattle.dn_arc.specs.Splits.{LeastCost}
-use Rattle.dn_arc.specs.Meanings.{SameCurve}
-use Rattle.dn_arc.specs.Canonical.{IsFormOne}
+use Rattle.dn_arc_theory.specs.declared.arc.CostArc.{CostArc}
+use Rattle.dn_arc_theory.specs.Splits.{LeastCost}
+use Rattle.dn_arc_theory.specs.Meanings.{SameCurve}
+use Rattle.dn_arc_theory.specs.Canonical.{IsFormOne}
 use Rattle.dn_laws.specs.State.BundleExamples.{arc, worked, worked_one, worked_two}
-use Rattle.dn_arc.proofs.CurvesLaws.{curve_meaning}
-use Rattle.dn_arc.proofs.FillsLaws.{AreOrdered, least_of_filling}
-use Rattle.dn_arc.proofs.FormsLaws.{form_one_ordered}
-use Rattle.dn_arc.proofs.FillMeaningsLaws.{same_by_parts}
+use Rattle.dn_arc_theory.proofs.CurvesLaws.{curve_meaning}
+use Rattle.dn_arc_theory.proofs.FillsLaws.{AreOrdered, least_of_filling}
+use Rattle.dn_arc_theory.proofs.FormsLaws.{form_one_ordered}
+use Rattle.dn_arc_theory.proofs.FillMeaningsLaws.{same_by_parts}
 
 -- the worked arcs by cost
 abbrev by_cost : List CostArc

@@ -2,25 +2,25 @@
 use Rattle.std.proofs.Common.{◌≡◌, ◌≢◌, ◌⊎◌, inl, inr, ℕ, suc, zero, ℤ, pos, negsuc, ◌+ℤ◌, ◌≤ℤ◌, ◌<ℤ◌, ◌↔◌, List, [], ◌∷◌, Option, Some, None, refl, ap, arith}
 use Rattle.std.specs.List.{AllByRecursion}
 use Rattle.std.proofs.lemmas.Int.{ints, by_lt_z}
-use Rattle.dn_arc.specs.Kinds.{costs}
-use Rattle.dn_arc.specs.declared.arc.LengthArc.{LengthArc}
-use Rattle.dn_arc.specs.declared.arc.CapArc.{CapArc}
-use Rattle.dn_arc.specs.declared.arc.CostArc.{CostArc}
-use Rattle.dn_arc.specs.declared.difference.Gap.{Gap}
-use Rattle.dn_arc.specs.declared.difference.How.{How}
-use Rattle.dn_arc.specs.declared.difference.How.TheVariants.{Lengths, Totals, Costs}
-use Rattle.dn_arc.specs.Capacities.{total_cap}
-use Rattle.dn_arc.specs.Lengths.{LeastLength}
-use Rattle.dn_arc.specs.Splits.{LeastCost}
-use Rattle.dn_arc.specs.Meanings.{SameLength, SameTotal, SameCurve}
-use Rattle.dn_arc.specs.Canonical.{IsCostArc}
-use Rattle.dn_arc.specs.Differences.{IsLengthOf, IsCostOf, IsGap, LengthsDiffer, TotalsDiffer, CurvesDiffer}
-use Rattle.dn_arc.proofs.SharesLaws.{AtMost}
-use Rattle.dn_arc.proofs.SplitsLaws as Splits
-use Rattle.dn_arc.proofs.LengthsLaws as Least
-use Rattle.dn_arc.proofs.CurvesLaws.{at_most_cap}
-use Rattle.dn_arc.proofs.CostKindLaws.{cost_kind}
-use Rattle.dn_arc.proofs.DifferencesLaws.{least_cost_unique}
+use Rattle.dn_arc_theory.specs.Kinds.{costs}
+use Rattle.dn_arc_theory.specs.declared.arc.LengthArc.{LengthArc}
+use Rattle.dn_arc_theory.specs.declared.arc.CapArc.{CapArc}
+use Rattle.dn_arc_theory.specs.declared.arc.CostArc.{CostArc}
+use Rattle.dn_arc_theory.specs.declared.difference.Gap.{Gap}
+use Rattle.dn_arc_theory.specs.declared.difference.How.{How}
+use Rattle.dn_arc_theory.specs.declared.difference.How.TheVariants.{Lengths, Totals, Costs}
+use Rattle.dn_arc_theory.specs.Capacities.{total_cap}
+use Rattle.dn_arc_theory.specs.Lengths.{LeastLength}
+use Rattle.dn_arc_theory.specs.Splits.{LeastCost}
+use Rattle.dn_arc_theory.specs.Meanings.{SameLength, SameTotal, SameCurve}
+use Rattle.dn_arc_theory.specs.Canonical.{IsCostArc}
+use Rattle.dn_arc_theory.specs.Differences.{IsLengthOf, IsCostOf, IsGap, LengthsDiffer, TotalsDiffer, CurvesDiffer}
+use Rattle.dn_arc_theory.proofs.SharesLaws.{AtMost}
+use Rattle.dn_arc_theory.proofs.SplitsLaws as Splits
+use Rattle.dn_arc_theory.proofs.LengthsLaws as Least
+use Rattle.dn_arc_theory.proofs.CurvesLaws.{at_most_cap}
+use Rattle.dn_arc_theory.proofs.CostKindLaws.{cost_kind}
+use Rattle.dn_arc_theory.proofs.DifferencesLaws.{least_cost_unique}
 
 -- two numbers are equal, or they are not
 pub same_or_not : (a b : ℤ) → (a ≡ b) ⊎ (a ≢ b)

@@ -6,17 +6,17 @@ use Rattle.std.specs.Ordering.{int_cmp}
 use Rattle.std.specs.declared.cmp.Ordering.TheVariants.{Less}
 use Rattle.std.proofs.lemmas.Cmp.{int_cmp_total}
 use Rattle.std.proofs.lemmas.Map.Lookups.{exact_signed}
-use Rattle.dn_arc.specs.State.Bundles.{ArcDiffer, IsKind}
-use Rattle.dn_arc.specs.Differences.{CurvesDiffer, LengthsDiffer}
-use Rattle.dn_arc.specs.Kinds.{ArcKind}
-use Rattle.dn_arc.specs.Kinds as Arcs
-use Rattle.dn_arc.specs.Pairs.{bundle, pair_cmp}
-use Rattle.dn_arc.specs.declared.arc.LengthArc.{LengthArc}
-use Rattle.dn_arc.specs.declared.arc.CostArc.{CostArc}
-use Rattle.dn_arc.specs.declared.difference.How.{How}
-use Rattle.dn_arc.proofs.CostKindLaws.{cost_kind}
-use Rattle.dn_arc.proofs.LengthKindLaws.{length_kind}
-use Rattle.dn_arc.proofs.PairLaws.{pair_total}
+use Rattle.dn_arc_theory.specs.State.Bundles.{ArcDiffer, IsKind}
+use Rattle.dn_arc_theory.specs.Differences.{CurvesDiffer, LengthsDiffer}
+use Rattle.dn_arc_theory.specs.Kinds.{ArcKind}
+use Rattle.dn_arc_theory.specs.Kinds as Arcs
+use Rattle.dn_arc_theory.specs.Pairs.{bundle, pair_cmp}
+use Rattle.dn_arc_theory.specs.declared.arc.LengthArc.{LengthArc}
+use Rattle.dn_arc_theory.specs.declared.arc.CostArc.{CostArc}
+use Rattle.dn_arc_theory.specs.declared.difference.How.{How}
+use Rattle.dn_arc_theory.proofs.CostKindLaws.{cost_kind}
+use Rattle.dn_arc_theory.proofs.LengthKindLaws.{length_kind}
+use Rattle.dn_arc_theory.proofs.PairLaws.{pair_total}
 use Rattle.dn_instance.specs.declared.verdict.Verdict.TheVariants.{Pair}
 use Rattle.dn_compare.specs.Observed.{value_of}
 use Rattle.dn_compare.specs.FirstDifference.{IsFirstDifference}

@@ -10,18 +10,18 @@ use Rattle.std.specs.declared.cmp.Ordering.TheVariants.{Less, Equal, Greater}
 use Rattle.std.proofs.lemmas.Bool.{both_ways, cases_Bool, cases_eq}
 use Rattle.std.proofs.lemmas.Cmp.{int_cmp_total}
 use Rattle.std.proofs.lemmas.Map.Lookups.{CmpEqualImpliesEq, exact_signed}
-use Rattle.dn_arc.specs.Differences.{CurvesDiffer, LengthsDiffer, TotalsDiffer}
-use Rattle.dn_arc.specs.State.Bundles.{ArcDiffer, IsKind}
-use Rattle.dn_arc.specs.Kinds.{ArcKind, costs, capacities, lengths}
-use Rattle.dn_arc.specs.declared.difference.How.{How}
-use Rattle.dn_arc.proofs.CostKindLaws.{cost_kind}
-use Rattle.dn_arc.proofs.TotalKindLaws.{total_kind}
-use Rattle.dn_arc.proofs.LengthKindLaws.{length_kind}
+use Rattle.dn_arc_theory.specs.Differences.{CurvesDiffer, LengthsDiffer, TotalsDiffer}
+use Rattle.dn_arc_theory.specs.State.Bundles.{ArcDiffer, IsKind}
+use Rattle.dn_arc_theory.specs.Kinds.{ArcKind, costs, capacities, lengths}
+use Rattle.dn_arc_theory.specs.declared.difference.How.{How}
+use Rattle.dn_arc_theory.proofs.CostKindLaws.{cost_kind}
+use Rattle.dn_arc_theory.proofs.TotalKindLaws.{total_kind}
+use Rattle.dn_arc_theory.proofs.LengthKindLaws.{length_kind}
 use Rattle.dn_laws.proofs.bundles.SomeDifference.{same_or_not, same_option_or_not, length_or_differ, total_or_differ, curve_or_differ}
 use Rattle.dn_instance.specs.Instances.{Graph, Instance, MinCostFlow, MaxFlow, ShortestPaths, Sources, Queries, Coordinates, kind_of, nodes_of}
-use Rattle.dn_arc.specs.Pairs.{bundle, pair_cmp, same_pair}
+use Rattle.dn_arc_theory.specs.Pairs.{bundle, pair_cmp, same_pair}
 use Rattle.dn_instance.specs.Validity.{IsPlaced, IsValid, IsValidGraph}
-use Rattle.dn_arc.proofs.PairLaws.{pair_is, pair_self, pair_total}
+use Rattle.dn_arc_theory.proofs.PairLaws.{pair_is, pair_self, pair_total}
 use Rattle.dn_compare.specs.Observed.{value_of, flow_or_zero, item_at}
 use Rattle.dn_compare.specs.FirstDifference.{IsFirstDifference}
 use Rattle.dn_compare.specs.State.Partings.{IsPairVerdict, ItemsPartAt, IsListVerdict}

@@ -2,12 +2,12 @@
 use Rattle.std.proofs.Common.{◌≡◌, ℤ, List, [], ◌∷◌, length, map, refl, sym, ap, ◌∙◌}
 use Rattle.std.proofs.lemmas.List.{map-append}
 use Rattle.std.specs.List.{AllByRecursion, flat_map}
-use Rattle.dn_arc.specs.State.Bundles.{IsKind}
-use Rattle.dn_arc.specs.Kinds.{ArcKind, lengths, capacities, costs}
-use Rattle.dn_arc.proofs.CostKindLaws.{cost_kind}
-use Rattle.dn_arc.proofs.LengthKindLaws.{length_kind}
-use Rattle.dn_arc.proofs.OrdersLaws.{same_joined}
-use Rattle.dn_arc.proofs.TotalKindLaws.{total_kind}
+use Rattle.dn_arc_theory.specs.State.Bundles.{IsKind}
+use Rattle.dn_arc_theory.specs.Kinds.{ArcKind, lengths, capacities, costs}
+use Rattle.dn_arc_theory.proofs.CostKindLaws.{cost_kind}
+use Rattle.dn_arc_theory.proofs.LengthKindLaws.{length_kind}
+use Rattle.dn_arc_theory.proofs.OrdersLaws.{same_joined}
+use Rattle.dn_arc_theory.proofs.TotalKindLaws.{total_kind}
 use Rattle.dn_instance.specs.Instances.{Graph, Instance, MinCostFlow, MaxFlow, ShortestPaths, size_of}
 use Rattle.dn_instance.specs.State.Parts.{arc_lines, graph_lines, SameHead, AreParts, AreSame}
 use Rattle.dn_instance.specs.Sameness.{SameGraph, IsSame}

@@ -3,10 +3,10 @@ use Rattle.std.proofs.Common.{◌≡◌, ◌↔◌, ℤ, List, [], map, Option, 
 use Rattle.std.specs.List.{AllByRecursion}
 use Rattle.std.specs.List.Sorted.{IsStrictlySortedBy}
 use Rattle.std.specs.Map.{keys_of, lookup}
-use Rattle.dn_arc.specs.State.Bundles.{IsKind}
-use Rattle.dn_arc.specs.Kinds.{ArcKind}
-use Rattle.dn_arc.specs.Pairs.{bundle, pair_cmp, same_pair}
-use Rattle.dn_arc.proofs.PairLaws.{pair_total}
+use Rattle.dn_arc_theory.specs.State.Bundles.{IsKind}
+use Rattle.dn_arc_theory.specs.Kinds.{ArcKind}
+use Rattle.dn_arc_theory.specs.Pairs.{bundle, pair_cmp, same_pair}
+use Rattle.dn_arc_theory.proofs.PairLaws.{pair_total}
 use Rattle.dn_compare.proofs.ArcPartings.{exact_pair}
 use Rattle.dn_laws.proofs.differences.SomeVerdict.{IsApart, bundle_apart, everywhere, lookup_apart}
 use Rattle.dn_sink.specs.Rows.{Cells}

@@ -20,14 +20,14 @@ use Rattle.dn_line.specs.Faults.{field_tests, fields, first_fault, head_tests, o
 use Rattle.dn_line.specs.Reading.{item, spelled, unless, words_read}
 use Rattle.dn_line.specs.Words.{is_skip}
 use Rattle.dn_line.proofs.FaultLaws.{fault_append}
-use Rattle.dn_arc.specs.Kinds.{ArcKind, capacities, costs, lengths}
-use Rattle.dn_arc.specs.Pairs.{bundle, same_pair}
-use Rattle.dn_arc.specs.State.Equivalences.{IsMeaning}
-use Rattle.dn_arc.specs.declared.arc.CapArc.{CapArc}
-use Rattle.dn_arc.proofs.CurvesLaws.{curve_meaning}
-use Rattle.dn_arc.proofs.LengthsLaws.{length_meaning}
-use Rattle.dn_arc.proofs.OrdersLaws.{any_order}
-use Rattle.dn_arc.proofs.TotalsLaws.{total_meaning}
+use Rattle.dn_arc_theory.specs.Kinds.{ArcKind, capacities, costs, lengths}
+use Rattle.dn_arc_theory.specs.Pairs.{bundle, same_pair}
+use Rattle.dn_arc_theory.specs.State.Equivalences.{IsMeaning}
+use Rattle.dn_arc_theory.specs.declared.arc.CapArc.{CapArc}
+use Rattle.dn_arc_theory.proofs.CurvesLaws.{curve_meaning}
+use Rattle.dn_arc_theory.proofs.LengthsLaws.{length_meaning}
+use Rattle.dn_arc_theory.proofs.OrdersLaws.{any_order}
+use Rattle.dn_arc_theory.proofs.TotalsLaws.{total_meaning}
 use Rattle.dn_instance.specs.Instances.{Graph, Instance}
 use Rattle.dn_instance.specs.Items.{Problem, arcs_of, by_key, cap_arc_in, cost_arc_in, graph_of, instance_as, instance_of, kind_known, length_arc_in, max_flow, problem_of, supply_in, terminal_in, terminal_of}
 use Rattle.dn_instance.specs.Sameness.{IsSame, SameGraph}

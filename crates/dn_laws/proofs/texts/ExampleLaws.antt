@@ -3,15 +3,15 @@ use Rattle.std.proofs.Common.{◌≡◌, ℤ, pos, ◌≤ℤ◌, ◌-◌, ◌^�
 use Rattle.std.proofs.lemmas.Bool.{cases_Bool, cond_both}
 use Rattle.std.proofs.lemmas.Int.{ints}
 use Rattle.std.specs.List.{AllByRecursion}
-use Rattle.dn_arc.specs.declared.arc.CostArc.{CostArc}
-use Rattle.dn_arc.specs.declared.arc.Form.{Form}
-use Rattle.dn_arc.specs.Canonical.{IsCostArc, AreCanonCosts}
-use Rattle.dn_arc.specs.Meanings.{SameCurve}
-use Rattle.dn_arc.specs.Kinds.{costs}
+use Rattle.dn_arc_theory.specs.declared.arc.CostArc.{CostArc}
+use Rattle.dn_arc_theory.specs.declared.arc.Form.{Form}
+use Rattle.dn_arc_theory.specs.Canonical.{IsCostArc, AreCanonCosts}
+use Rattle.dn_arc_theory.specs.Meanings.{SameCurve}
+use Rattle.dn_arc_theory.specs.Kinds.{costs}
 use Rattle.dn_laws.specs.State.BundleExamples.{arc, worked_one, worked_two}
-use Rattle.dn_arc.proofs.CostKindLaws.{cost_kind}
-use Rattle.dn_arc.proofs.CurvesLaws.{curve_meaning}
-use Rattle.dn_arc.specs.Pairs.{bundle, same_pair}
+use Rattle.dn_arc_theory.proofs.CostKindLaws.{cost_kind}
+use Rattle.dn_arc_theory.proofs.CurvesLaws.{curve_meaning}
+use Rattle.dn_arc_theory.specs.Pairs.{bundle, same_pair}
 use Rattle.dn_instance.specs.Validity.{Fits, IsPlaced, IsValid}
 use Rattle.dn_instance.specs.Sameness.{SameGraph}
 use Rattle.dn_instance.proofs.MapLaws.{no_keys}

@@ -4,29 +4,29 @@ use Rattle.std.proofs.lemmas.Bool.Decides.{nat_tests}
 use Rattle.std.proofs.lemmas.Int.{ints, by_lt_z}
 use Rattle.std.specs.List.{AllByRecursion}
 use Rattle.std.specs.Map.{lookup}
-use Rattle.dn_arc.specs.declared.arc.CostArc.{CostArc}
-use Rattle.dn_arc.specs.declared.arc.Form.{Form}
-use Rattle.dn_arc.specs.declared.arc.Form.TheVariants.{One, Two}
-use Rattle.dn_arc.specs.declared.arc.LengthArc.{LengthArc}
-use Rattle.dn_arc.specs.Canonical.{IsCostArc}
-use Rattle.dn_arc.specs.Capacities.{total_cap}
-use Rattle.dn_arc.specs.Kinds.{ArcKind, capacities, costs, lengths}
-use Rattle.dn_arc.specs.Lengths.{HasLength, LeastLength}
-use Rattle.dn_arc.specs.Meanings.{SameCurve, SameLength}
-use Rattle.dn_arc.specs.Pairs.{bundle, same_pair}
-use Rattle.dn_arc.specs.State.Bundles.{IsKind, NumbersFit, listed_of}
-use Rattle.dn_arc.specs.State.CanonArcs.{AreCanonArcsOf}
-use Rattle.dn_arc.specs.State.CurveListed.{IsSound, listed}
-use Rattle.dn_arc.specs.State.SingleArcs.{cap_listed, length_listed}
-use Rattle.dn_arc.specs.State.Steps.{add_step}
-use Rattle.dn_arc.proofs.CostKindLaws.{cost_kind}
-use Rattle.dn_arc.proofs.CurvesLaws.{curve_meaning}
-use Rattle.dn_arc.proofs.LengthKindLaws.{length_canonical, length_fit, length_kind}
-use Rattle.dn_arc.proofs.LengthsLaws.{least_of, least_unique, lone}
-use Rattle.dn_arc.proofs.MeansLaws.{fits_some}
-use Rattle.dn_arc.proofs.OrdersLaws.{at_end}
-use Rattle.dn_arc.proofs.SoundLaws.{caps_some, sound_canonical, sound_fit, sound_same}
-use Rattle.dn_arc.proofs.TotalKindLaws.{total_canonical, total_fit, total_kind, total_some}
+use Rattle.dn_arc_theory.specs.declared.arc.CostArc.{CostArc}
+use Rattle.dn_arc_theory.specs.declared.arc.Form.{Form}
+use Rattle.dn_arc_theory.specs.declared.arc.Form.TheVariants.{One, Two}
+use Rattle.dn_arc_theory.specs.declared.arc.LengthArc.{LengthArc}
+use Rattle.dn_arc_theory.specs.Canonical.{IsCostArc}
+use Rattle.dn_arc_theory.specs.Capacities.{total_cap}
+use Rattle.dn_arc_theory.specs.Kinds.{ArcKind, capacities, costs, lengths}
+use Rattle.dn_arc_theory.specs.Lengths.{HasLength, LeastLength}
+use Rattle.dn_arc_theory.specs.Meanings.{SameCurve, SameLength}
+use Rattle.dn_arc_theory.specs.Pairs.{bundle, same_pair}
+use Rattle.dn_arc_theory.specs.State.Bundles.{IsKind, NumbersFit, listed_of}
+use Rattle.dn_arc_theory.specs.State.CanonArcs.{AreCanonArcsOf}
+use Rattle.dn_arc_theory.specs.State.CurveListed.{IsSound, listed}
+use Rattle.dn_arc_theory.specs.State.SingleArcs.{cap_listed, length_listed}
+use Rattle.dn_arc_theory.specs.State.Steps.{add_step}
+use Rattle.dn_arc_theory.proofs.CostKindLaws.{cost_kind}
+use Rattle.dn_arc_theory.proofs.CurvesLaws.{curve_meaning}
+use Rattle.dn_arc_theory.proofs.LengthKindLaws.{length_canonical, length_fit, length_kind}
+use Rattle.dn_arc_theory.proofs.LengthsLaws.{least_of, least_unique, lone}
+use Rattle.dn_arc_theory.proofs.MeansLaws.{fits_some}
+use Rattle.dn_arc_theory.proofs.OrdersLaws.{at_end}
+use Rattle.dn_arc_theory.proofs.SoundLaws.{caps_some, sound_canonical, sound_fit, sound_same}
+use Rattle.dn_arc_theory.proofs.TotalKindLaws.{total_canonical, total_fit, total_kind, total_some}
 use Rattle.dn_bundle.proofs.GrowLaws.{grown_same, grown_sound}
 use Rattle.dn_instance.specs.Instances.{Graph, Instance, MinCostFlow, MaxFlow, ShortestPaths, Sources, Queries, Coordinates}
 use Rattle.dn_instance.specs.Validity.{Fits, IsPlaced, IsValid, IsValidGraph}

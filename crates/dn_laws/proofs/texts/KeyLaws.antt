@@ -4,8 +4,8 @@ use Rattle.std.proofs.lemmas.Bool.{cases_Bool}
 use Rattle.std.specs.BTreeMap.{insert_entry}
 use Rattle.std.specs.List.Sorted.{IsStrictlySortedBy}
 use Rattle.std.specs.Map.{keys_of, lookup}
-use Rattle.dn_arc.specs.Pairs.{bundle, pair_cmp, same_pair}
-use Rattle.dn_arc.proofs.PairLaws.{pair_is, pair_total}
+use Rattle.dn_arc_theory.specs.Pairs.{bundle, pair_cmp, same_pair}
+use Rattle.dn_arc_theory.proofs.PairLaws.{pair_is, pair_total}
 use Rattle.dn_instance.proofs.MapLaws.{no_keys, put_found, rising_put}
 use Rattle.dn_compare.proofs.ArcPartings.{exact_pair}
 

@@ -5,11 +5,11 @@ use Rattle.std.specs.Cmp.{int_cmp_is}
 use Rattle.std.specs.List.{AllByRecursion, flat_map}
 use Rattle.std.specs.Ordering.{is_le}
 use Rattle.std.specs.declared.cmp.Ordering.TheVariants.{Less}
-use Rattle.dn_arc.specs.declared.arc.Form.{Form}
-use Rattle.dn_arc.specs.State.Bundles.{IsKind}
-use Rattle.dn_arc.specs.Kinds.{ArcKind}
-use Rattle.dn_arc.proofs.OrdersLaws.{same_joined}
-use Rattle.dn_arc.specs.Pairs.{bundle, pair_cmp, pair_le}
+use Rattle.dn_arc_theory.specs.declared.arc.Form.{Form}
+use Rattle.dn_arc_theory.specs.State.Bundles.{IsKind}
+use Rattle.dn_arc_theory.specs.Kinds.{ArcKind}
+use Rattle.dn_arc_theory.proofs.OrdersLaws.{same_joined}
+use Rattle.dn_arc_theory.specs.Pairs.{bundle, pair_cmp, pair_le}
 use Rattle.dn_instance.specs.Instances.{Graph, Instance}
 use Rattle.dn_instance.specs.State.Parts.{AreParts, SameHead, arc_lines}
 use Rattle.dn_instance.specs.Sameness.{IsSame}

@@ -1,6 +1,6 @@
 -- A worked bundle of a `min` problem, and lists that are canonical in one form or in none.
 use Rattle.std.specs.Prelude.{ℤ, pos, List, [], ◌∷◌}
-use Rattle.dn_arc.specs.declared.arc.CostArc.{CostArc}
+use Rattle.dn_arc_theory.specs.declared.arc.CostArc.{CostArc}
 
 -- the arc with this LOW, CAP and COST
 abbrev pub arc : ℤ → ℤ → ℤ → CostArc

@@ -1,6 +1,6 @@
 -- A `min` problem whose arcs all lead from node 1 to node 2.
 use Rattle.std.specs.Prelude.{pos, List, []}
-use Rattle.dn_arc.specs.declared.arc.CostArc.{CostArc}
+use Rattle.dn_arc_theory.specs.declared.arc.CostArc.{CostArc}
 use Rattle.dn_instance.specs.Instances.{Instance, MinCostFlow}
 use Rattle.dn_canon.specs.State.ListedArcs.{placed}
 

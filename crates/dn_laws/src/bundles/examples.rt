@@ -1,8 +1,8 @@
 // Worked bundles.
 ghost use Rattle.std.specs.Prelude.{ℤ, pos};
-ghost use Rattle.dn_arc.specs.Splits.{LeastCost};
-ghost use Rattle.dn_arc.specs.Meanings.{SameCurve};
-ghost use Rattle.dn_arc.specs.Canonical.{AreCanonCosts};
+ghost use Rattle.dn_arc_theory.specs.Splits.{LeastCost};
+ghost use Rattle.dn_arc_theory.specs.Meanings.{SameCurve};
+ghost use Rattle.dn_arc_theory.specs.Canonical.{AreCanonCosts};
 ghost use Rattle.dn_laws.specs.State.BundleExamples.{worked, worked_one, worked_two, canon_in_two_alone, apart};
 
 use dn_bundle::Form;

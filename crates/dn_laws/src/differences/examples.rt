@@ -1,7 +1,7 @@
 // Worked first differences. A verdict has the value of the left side first.
 ghost use Rattle.std.specs.Prelude.{pos, negsuc, [], ◌∷◌, Some, None};
 ghost use Rattle.dn_line.specs.declared.kind.Kind.{Kind};
-ghost use Rattle.dn_arc.specs.declared.difference.How.{How};
+ghost use Rattle.dn_arc_theory.specs.declared.difference.How.{How};
 ghost use Rattle.dn_instance.specs.Instances.{ShortestPaths, Sources, Queries, Coordinates};
 ghost use Rattle.dn_instance.specs.declared.verdict.Verdict.{Verdict};
 ghost use Rattle.dn_compare.specs.FirstDifference.{IsFirstDifference};

@@ -1,13 +1,12 @@
 // Worked names of texts, and reads that fail.
 ghost use Rattle.std.specs.Prelude.{◌≡◌, ℕ, ◌-◌, ◌^◌, List, Bool, true, Some, codes};
 ghost use Rattle.std.specs.declared.io.ErrorKind.TheVariants.{Interrupted};
-ghost use Rattle.dn_files.specs.declared.files.FilesFault.TheVariants.{Device};
+ghost use Rattle.dn_host.specs.declared.files.FilesFault.TheVariants.{Device};
 ghost use Rattle.dn_host.specs.Openers.{MayFault, behind_of};
 ghost use Rattle.dn_host.specs.Streams.{FailsAtLast, PullsStream};
 
-use dn_files::Files;
-use dn_host::files::{OpenedFiles, OpenedSource};
-use dn_host::{Opener, Stream};
+use dn_host::opened_files::{OpenedFiles, OpenedSource};
+use dn_host::{Files, Opener, Stream};
 use dn_line::Source;
 
 /// The name `-` is standard input, which can always be opened; any other name is that of a file.

@@ -1,7 +1,7 @@
 // Worked reports.
 ghost use Rattle.std.specs.Prelude.{◌≡◌, true, false, None, Some, pos, negsuc, [], ◌∷◌, ◌++◌, codes, flat_map};
 ghost use Rattle.dn_line.specs.declared.kind.Kind.{Kind};
-ghost use Rattle.dn_arc.specs.declared.difference.How.{How};
+ghost use Rattle.dn_arc_theory.specs.declared.difference.How.{How};
 ghost use Rattle.dn_instance.specs.Instances.{Sources, Queries, Coordinates};
 ghost use Rattle.dn_instance.specs.declared.refusal.Place.TheVariants as Places;
 ghost use Rattle.dn_instance.specs.declared.verdict.Verdict.{Verdict};

@@ -9,7 +9,7 @@ ghost use Rattle.dn_run.specs.HostRuns.{NoWords};
 ghost use Rattle.dn_run.specs.Words.{Ran};
 ghost use Rattle.dn_laws.specs.State.RunExamples.{Gives, RunOf, took, two_texts};
 
-use dn_files::Files;
+use dn_host::Files;
 
 /// A text with a fault gives one line on `err`, and nothing on `out`.
 pub fn faulty_text()

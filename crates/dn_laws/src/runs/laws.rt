@@ -22,7 +22,7 @@ ghost use Rattle.dn_run.specs.Streams.{sink_run};
 ghost use Rattle.dn_run.specs.Words.{Ran};
 
 use dn_bundle::Form;
-use dn_files::Files;
+use dn_host::Files;
 use dn_sink::Sink;
 
 /// A command that ends with status 2 does not accept its texts, if their bytes are known.

@@ -2,8 +2,8 @@
 ghost use Rattle.std.specs.Prelude.{◌≡◌, ◌↔◌, ℕ, ◌-◌, ◌<◌, ◌≤◌, ◌^◌, ℤ, List, ◌++◌, length};
 ghost use Rattle.std.specs.List.{AllByRecursion, sum_by};
 ghost use Rattle.dn_line.specs.Pieces.{lines};
-ghost use Rattle.dn_arc.specs.declared.arc.CapArc.{CapArc};
-ghost use Rattle.dn_arc.specs.declared.arc.CostArc.{CostArc};
+ghost use Rattle.dn_arc_theory.specs.declared.arc.CapArc.{CapArc};
+ghost use Rattle.dn_arc_theory.specs.declared.arc.CostArc.{CostArc};
 ghost use Rattle.dn_instance.specs.Instances.{Graph, Instance, MinCostFlow, MaxFlow, size_of};
 ghost use Rattle.dn_instance.specs.State.Parts.{AreParts};
 ghost use Rattle.dn_instance.specs.Sameness.{IsSame};

@@ -1,6 +1,6 @@
 // Worked command lines.
 ghost use Rattle.std.specs.Prelude.{◌≡◌, ◌⊎◌, codes, [], ◌∷◌, Some, None, false, true};
-ghost use Rattle.dn_arc.specs.declared.arc.Form.TheVariants.{One, Two};
+ghost use Rattle.dn_arc_theory.specs.declared.arc.Form.TheVariants.{One, Two};
 ghost use Rattle.dn_command.specs.Commands.{Canon, Check, Compare, Show, names_twice, plain_asked};
 ghost use Rattle.dn_command.specs.Requests.{IsReadByClap};
 ghost use Rattle.dn_command.specs.State.RequestKinds.{Prints, PrintsVersion};

@@ -1,7 +1,7 @@
 // What `clap`'s definitions say of the usual command lines, stated without them: which words name texts, and what the
 // options mean.
 ghost use Rattle.std.specs.Prelude.{◌≡◌, ◌⊎◌, ◌++◌, ◌∷◌, [], List, None, Some, codes, true, ℕ};
-ghost use Rattle.dn_arc.specs.declared.arc.Form.TheVariants.{One, Two};
+ghost use Rattle.dn_arc_theory.specs.declared.arc.Form.TheVariants.{One, Two};
 ghost use Rattle.dn_command.specs.Commands.{Canon, Check, Compare, Show, is_name};
 ghost use Rattle.dn_command.specs.Requests.{IsReadByClap};
 ghost use Rattle.dn_command.specs.State.RequestKinds.{Requests};

@@ -3,8 +3,8 @@ use Rattle.std.specs.Prelude.{ℕ, ℤ, pos, List, [], ◌∷◌, length, map, c
 use Rattle.std.specs.Fmt.{signed_decimal}
 use Rattle.dn_line.specs.declared.kind.Kind.TheVariants as Kinds
 use Rattle.dn_bundle.specs.State.Listings.{least_arcs, total_arcs, curve_arcs}
-use Rattle.dn_arc.specs.declared.arc.Form.TheVariants.{One}
-use Rattle.dn_arc.specs.declared.arc.LengthArc.{LengthArc}
+use Rattle.dn_arc_theory.specs.declared.arc.Form.TheVariants.{One}
+use Rattle.dn_arc_theory.specs.declared.arc.LengthArc.{LengthArc}
 use Rattle.dn_instance.specs.State.Helds.{Bundles, Contents, OfCo, OfHeld, OfMax, OfMin, OfP2p, OfSp, OfSs, Parsed}
 use Rattle.dn_sink.specs.Rows.{Cells}
 use Rattle.dn_report.specs.Shows.{IsShown, pair_row, total_words, cost_words, number_row, shown_graph, companion_rows, supply_rows, terminal_rows}

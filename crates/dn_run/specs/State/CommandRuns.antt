@@ -1,7 +1,7 @@
 -- What a function of a command does, and the text that one call asks the files for.
 use Rattle.std.specs.Prelude.{ℕ, List, Result}
 use Rattle.dn_line.specs.Sources.{SourceFacts}
-use Rattle.dn_files.specs.Takings.{FilesFacts}
+use Rattle.dn_host.specs.Takings.{FilesFacts}
 use Rattle.dn_run.specs.Texts.{AskedText}
 use Rattle.dn_run.specs.FilesRuns.{files_run, in_full, text_asked}
 use Rattle.dn_run.specs.declared.stop.Stop.{Stop}

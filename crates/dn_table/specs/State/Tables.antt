@@ -5,12 +5,12 @@ use Rattle.std.specs.Borrow.{Bor}
 use Rattle.std.specs.List.{AllByRecursion}
 use Rattle.std.specs.List.Sorted.{IsStrictlySortedBy}
 use Rattle.std.specs.Map.{keys_of, lookup}
-use Rattle.dn_arc.specs.State.Bundles.{BundleFacts, meant, listed_of}
-use Rattle.dn_arc.specs.State.Sizes.{ArcSizes}
-use Rattle.dn_arc.specs.Kinds.{ArcKind}
-use Rattle.dn_arc.specs.State.CanonArcs.{AreCanonArcsOf, NeedsMore}
+use Rattle.dn_arc_theory.specs.State.Bundles.{BundleFacts, meant, listed_of}
+use Rattle.dn_arc_theory.specs.State.Sizes.{ArcSizes}
+use Rattle.dn_arc_theory.specs.Kinds.{ArcKind}
+use Rattle.dn_arc_theory.specs.State.CanonArcs.{AreCanonArcsOf, NeedsMore}
 use Rattle.dn_table.specs.GraphEntries.{graph_entries}
-use Rattle.dn_arc.specs.Pairs.{bundle, pair_cmp, same_pair}
+use Rattle.dn_arc_theory.specs.Pairs.{bundle, pair_cmp, same_pair}
 
 -- the arcs that the table lists for an ordered pair
 abbrev pub listed_at : {B Arc : Type 0} → (B → List Arc) → List ((ℤ × ℤ) × B) → ℤ × ℤ → List Arc

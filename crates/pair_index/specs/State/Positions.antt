@@ -1,7 +1,7 @@
 -- The position of a pair among keys. Callers rely on these definitions.
 use Rattle.std.specs.Prelude.{◌≡◌, ℕ, ◌<◌, ◌≤◌, ℤ, pos, List, length, get_or, false, Option, MatchOption}
 use Rattle.std.specs.List.{list_any}
-use Rattle.dn_arc.specs.Pairs.{same_pair}
+use Rattle.dn_arc_theory.specs.Pairs.{same_pair}
 
 -- the pair at a position
 abbrev pub key_at : List (ℤ × ℤ) → ℕ → ℤ × ℤ

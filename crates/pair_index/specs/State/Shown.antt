@@ -1,7 +1,7 @@
 -- How an index finds keys. Only the proofs of this crate use these definitions.
 use Rattle.std.specs.Prelude.{ℕ, ℤ, List}
 use Rattle.std.specs.BTreeMap.{BTreeMap, get}
-use Rattle.dn_arc.specs.Pairs.{pair_cmp}
+use Rattle.dn_arc_theory.specs.Pairs.{pair_cmp}
 use Rattle.pair_index.specs.State.Chained.{IsChained}
 use Rattle.pair_index.specs.State.Positions.{IsPosition}
 use Rattle.pair_index.specs.State.Runs.{ShowsRuns}

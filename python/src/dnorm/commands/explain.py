@@ -1,7 +1,5 @@
 """Explains what the program prints: `dnorm-explain`."""
 
-from __future__ import annotations
-
 import contextlib
 import difflib
 import functools
@@ -11,6 +9,7 @@ import signal
 import subprocess
 import sys
 from collections.abc import Iterable, Iterator, Sequence
+from typing import Optional
 
 from ..causes import Opener, cause_of, quoted
 from ..console import for_terminal, is_open
@@ -62,8 +61,8 @@ def explain(words: Sequence[str]) -> int:
         sys.stderr.write(USAGE)
         return 3
     status = 0
-    for line in iter(sys.stdin.buffer.readline, b""):
-        told = os.fsdecode(line[:-1] if line.endswith(b"\n") else line)
+    for line in sys.stdin.buffer:
+        told = os.fsdecode(line.removesuffix(b"\n"))
         status = max(status, status_of(told))
         say(1, told, causes_of(told))
     return status
@@ -111,7 +110,7 @@ def status_of(told: str) -> int:
     return (4 if int(other[2]) < 34 else 2) if other else 0
 
 
-def causes_of(told: str, copy: Copied | None = None) -> Iterator[str]:
+def causes_of(told: str, copy: Optional[Copied] = None) -> Iterator[str]:
     """Yields what shows the cause of what a line tells, of standard input by its copy."""
     refused, other = REFUSED_LINE.fullmatch(told), OTHER_LINE.fullmatch(told)
     found = refused or other
@@ -128,7 +127,7 @@ def causes_of(told: str, copy: Copied | None = None) -> Iterator[str]:
         return
     line = int(found["place"]) if refused and found["place"] != "end" else None
     node = int(found["node"]) if other and found["node"] else None
-    text: Opener | None = copy.again if copy and name == "-" else None
+    text: Optional[Opener] = copy.again if copy and name == "-" else None
     # Nothing else can be read twice.
     if name != "-" and os.path.isfile(name) and os.access(name, os.R_OK):
         text = functools.partial(pieces_of, name)
@@ -197,12 +196,11 @@ def unknown_command(word: str, program: str, commands: Iterable[str]) -> str:
     if sentence_of(word):
         return sentence_of(word)
     near = [OTHER_NAMES[word]] if word in OTHER_NAMES else difflib.get_close_matches(word, commands, 1)
-    if near:
-        return f"{program} has no command {word}: the nearest is {near[0]}"
-    return f"{program} has no command {word}; its commands are {', '.join(commands)}"
+    others = f": the nearest is {near[0]}" if near else f"; its commands are {', '.join(commands)}"
+    return f"{program} has no command {word}{others}"
 
 
-def main(words: Sequence[str] | None = None) -> int:
+def main(words: Optional[Sequence[str]] = None) -> int:
     """Runs the command, and returns the status. A failure is a line on standard error; a signal ends this like other
     tools."""
     for it in (signal.SIGINT, signal.SIGPIPE, signal.SIGCHLD):

@@ -1,7 +1,5 @@
 """The command line: `dnorm-files`, which is `python3 -m dnorm`."""
 
-from __future__ import annotations
-
 import argparse
 import contextlib
 import os
@@ -9,7 +7,7 @@ import signal
 import sys
 import traceback
 from collections.abc import Callable, Sequence
-from typing import Any, NoReturn
+from typing import Any, NoReturn, Optional
 
 from .. import __version__
 from ..causes import quoted
@@ -40,9 +38,6 @@ The greatest one that applies counts.
 
 $DNORM_LIBRARY names the library libdnorm that reads the files, by default the one that came with this command.
 """
-EXCLUDE = "leave out what folders have by this name or path, where * stands for any characters; repeatable"
-FOLLOW = "of folders, also read links that lead out of them"
-FORMATS = ("text", "json", "github")
 TASKS = {
     "check": "Checks files, and prints a line for each: NAME: accepted KIND, or the refusal.",
     "manifest": "Prints the checksum of the canonical text of each file, or verifies such checksums.",
@@ -60,6 +55,69 @@ OWN = {
 }
 
 
+def seconds(word: str) -> float:
+    with contextlib.suppress(ValueError):
+        if 0 < float(word) <= LONGEST:
+            return float(word)
+    raise argparse.ArgumentTypeError(f"a number above 0, and at most {LONGEST}, is wanted, and not {word!r}")
+
+
+# The commands that read many files, and those that do so at the same time.
+FILES = "check manifest same list show"
+MANY = "check manifest same list look"
+NAME, FLAG, FORM = {"metavar": "FILE"}, {"action": "store_true"}, {"type": int, "choices": (1, 2)}
+REPEATED, JSON = {"action": "append"}, {"dest": "format", "action": "store_const", "const": "json"}
+# The words and options, in the order of the help: the commands that take one, its names, what it is for, and what
+# argparse takes besides. Of those that a command with + takes, a command line has one at most.
+OPTIONS: list[tuple[str, str, str, dict[str, Any]]] = [
+    (FILES, "path", "a file; a folder, whose files are found by the ends of their names; - for standard input",
+     {"nargs": "*", "metavar": "PATH"}),
+    ("look", "path", "two files; or a folder", {"nargs": "+", "metavar": "PATH"}),
+    ("compare", "left", "a file, or - for standard input", {"metavar": "LEFT"}),
+    ("compare", "right", "another file", {"metavar": "RIGHT"}),
+    ("canon", "file", "a file, or - for standard input", NAME),
+    ("look", "--since", "of a folder: name the files that are new, gone, renamed or otherwise than in this manifest",
+     NAME),
+    ("look", "--markdown", "of a folder: also write a summary in Markdown into FILE", NAME),
+    (FILES, "--files-from", "also the names in FILE, or with - on standard input, each ended by line end", NAME),
+    (FILES, "--files0-from", "also the names in FILE, or with - on standard input, each ended by NUL", NAME),
+    (FILES, "--ending", "search folders for names with this ending; repeatable; by default "
+     f"{' '.join(ENDINGS)}; that of a compression may follow each", {**REPEATED, "metavar": "END"}),
+    (f"{FILES} look", "--exclude", "leave out what folders have by this name or path, where * stands for any "
+     "characters; repeatable", {**REPEATED, "metavar": "PATTERN", "default": []}),
+    (FILES, "--within", "take the files for what is found in FOLDER, as a hook does", {"metavar": "FOLDER"}),
+    (f"{FILES} look", "--follow", "of folders, also read links that lead out of them", FLAG),
+    (FILES, "--strict", "other files of folders are failures, and for check files with a remark", FLAG),
+    ("check", "-x --exit-first", "end after the first file that is refused or fails", FLAG),
+    ("check", "--companions", "check that NAME.ss, NAME.p2p and NAME.co fit NAME.gr", FLAG),
+    ("check manifest", "-q --quiet", "print no line for files without a fault", FLAG),
+    ("compare+", "-q --quiet", "print nothing; the status tells", FLAG),
+    ("check+ manifest same list+", "--json", "print JSON objects, one on a line, instead", JSON),
+    ("compare+", "--json", "print a JSON object instead", JSON),
+    ("check+", "--output-format", "the lines for each file: as text, as JSON objects, or as annotations of GitHub",
+     {"dest": "format", "choices": ("text", "json", "github")}),
+    ("check", "--junit", "also write a report for CI services into FILE", NAME),
+    ("check", "--staged", "check what git has staged and COMMIT has otherwise, by default the last one; print faults "
+     "only", {"nargs": "?", "const": "", "metavar": "COMMIT"}),
+    ("list+", "--csv", "print a CSV table instead", FLAG),
+    ("manifest list canon", "--form", "the canonical form, 1 by default", FORM),
+    ("canon", "-o --output", "write into FILE, once all of it is known", NAME),
+    ("manifest+", "--verify", "verify the checksums in FILE instead, and name files of the paths that FILE does not "
+     "list", NAME),
+    ("manifest+", "--output", "write into FILE, once everything is known", NAME),
+    ("manifest+", "--incremental", "renew FILE, or make it, with sizes and times, and read only files that are new or "
+     "were written", NAME),
+    ("compare", "--limit", "print so many differing pairs, by default 3",
+     {"type": number(0), "default": 3, "metavar": "N"}),
+    (MANY, "-j --jobs", "files at the same time, by default one for each processor",
+     {"type": number(1), "default": processors(), "metavar": "N"}),
+    (" ".join(TASKS), "--timeout", "a file that takes longer is a failure", {"type": seconds, "metavar": "SECONDS"}),
+]  # fmt: skip
+# What a command has no option for.
+NONE = dict.fromkeys(["since", "markdown", "files_from", "files0_from", "ending", "within", "strict", "exit_first"])
+NONE |= dict.fromkeys(["quiet", "junit", "staged", "form", "verify", "output", "incremental"])
+
+
 def parser() -> Parser:
     epilog = f"{STATUSES}\n{page()} describes the commands.\n"
     layout: dict[str, Any] = {"formatter_class": argparse.RawDescriptionHelpFormatter, "epilog": epilog}
@@ -68,104 +126,18 @@ def parser() -> Parser:
     tasks = top.add_subparsers(dest="task", required=True, metavar="COMMAND")
     for task, about in TASKS.items():
         one = tasks.add_parser(task, help=about, description=about, allow_abbrev=False, **layout)
-        one.set_defaults(parser=one)
-        if task in ADDED:
-            ADDED[task](one)
-        else:
-            add_files(one, task)
-            add_outputs(one, task)
-        if task not in ("compare", "canon", "show"):
-            about = "files at the same time, by default one for each processor"
-            one.add_argument("-j", "--jobs", type=number(1), default=processors(), metavar="N", help=about)
-        one.add_argument("--timeout", type=seconds, metavar="SECONDS", help="a file that takes longer is a failure")
+        one.set_defaults(parser=one, format="text", **NONE)
+        alone: Any = None
+        for commands, names, about, more in OPTIONS:
+            if task in commands.split():
+                one.add_argument(*names.split(), help=about, **more)
+            elif f"{task}+" in commands.split():
+                alone = alone or one.add_mutually_exclusive_group()
+                alone.add_argument(*names.split(), help=about, **more)
     parents: dict[str, list[Any]] = {"explain": [], "parts": [parts_parser()]}
     for task, about in OWN.items():
         tasks.add_parser(task, help=about, parents=parents[task], add_help=False)
     return top
-
-
-def seconds(word: str) -> float:
-    with contextlib.suppress(ValueError):
-        if 0 < float(word) <= LONGEST:
-            return float(word)
-    raise argparse.ArgumentTypeError(f"a number above 0, and at most {LONGEST}, is wanted, and not {word!r}")
-
-
-def add_files(one: argparse.ArgumentParser, task: str) -> None:
-    """Adds the arguments that say which files a command reads."""
-    add = one.add_argument
-    about = "a file; a folder, whose files are found by the ends of their names; - for standard input"
-    add("path", nargs="*", metavar="PATH", help=about)
-    for name, end in [("--files-from", "line end"), ("--files0-from", "NUL")]:
-        add(name, metavar="FILE", help=f"also the names in FILE, or with - on standard input, each ended by {end}")
-    about = f"search folders for names with this ending; repeatable; by default {' '.join(ENDINGS)}"
-    add("--ending", action="append", metavar="END", help=f"{about}; that of a compression may follow each")
-    add("--exclude", action="append", default=[], metavar="PATTERN", help=EXCLUDE)
-    add("--within", metavar="FOLDER", help="take the files for what is found in FOLDER, as a hook does")
-    add("--follow", action="store_true", help=FOLLOW)
-    add("--strict", action="store_true", help="other files of folders are failures, and for check files with a remark")
-    if task == "check":
-        add("-x", "--exit-first", action="store_true", help="end after the first file that is refused or fails")
-        add("--companions", action="store_true", help="check that NAME.ss, NAME.p2p and NAME.co fit NAME.gr")
-
-
-def add_outputs(one: argparse.ArgumentParser, task: str) -> None:
-    """Adds the arguments that say what a command prints."""
-    add = one.add_argument
-    # Python's usage fails at a group without arguments.
-    alone: Callable[..., object] = add if task in ("same", "show") else one.add_mutually_exclusive_group().add_argument
-    if task in ("check", "manifest"):
-        add("-q", "--quiet", action="store_true", help="print no line for files without a fault")
-    about = "print JSON objects, one on a line, instead"
-    if task == "check":
-        alone("--json", dest="format", action="store_const", const="json", default="text", help=about)
-        about = "the lines for each file: as text, as JSON objects, or as annotations of GitHub"
-        alone("--output-format", dest="format", choices=FORMATS, default="text", help=about)
-        add("--junit", metavar="FILE", help="also write a report for CI services into FILE")
-        about = "check what git has staged and COMMIT has otherwise, by default the last one; print faults only"
-        add("--staged", nargs="?", const="", metavar="COMMIT", help=about)
-    elif task == "list":
-        alone("--json", action="store_true", help=about)
-        alone("--csv", action="store_true", help="print a CSV table instead")
-    elif task != "show":
-        add("--json", action="store_true", help=about)
-    if task in ("manifest", "list"):
-        add("--form", type=int, choices=(1, 2), help="the canonical form, 1 by default")
-    if task == "manifest":
-        about = "verify the checksums in FILE instead, and name files of the paths that FILE does not list"
-        alone("--verify", metavar="FILE", help=about)
-        alone("--output", metavar="FILE", help="write into FILE, once everything is known")
-        about = "renew FILE, or make it, with sizes and times, and read only files that are new or were written"
-        alone("--incremental", metavar="FILE", help=about)
-
-
-def add_looks(one: argparse.ArgumentParser) -> None:
-    one.add_argument("path", nargs="+", metavar="PATH", help="two files; or a folder")
-    about = "of a folder: name the files that are new, gone, renamed or otherwise than in this manifest"
-    one.add_argument("--since", metavar="FILE", help=about)
-    one.add_argument("--markdown", metavar="FILE", help="of a folder: also write a summary in Markdown into FILE")
-    one.add_argument("--exclude", action="append", default=[], metavar="PATTERN", help=EXCLUDE)
-    one.add_argument("--follow", action="store_true", help=FOLLOW)
-    one.set_defaults(files_from=None, files0_from=None, within=None, strict=False)
-
-
-def add_comparison(one: argparse.ArgumentParser) -> None:
-    one.add_argument("left", metavar="LEFT", help="a file, or - for standard input")
-    one.add_argument("right", metavar="RIGHT", help="another file")
-    alone = one.add_mutually_exclusive_group().add_argument
-    alone("-q", "--quiet", action="store_true", help="print nothing; the status tells")
-    alone("--json", action="store_true", help="print a JSON object instead")
-    about = "print so many differing pairs, by default 3"
-    one.add_argument("--limit", type=number(0), default=3, metavar="N", help=about)
-
-
-def add_canon(one: argparse.ArgumentParser) -> None:
-    one.add_argument("file", metavar="FILE", help="a file, or - for standard input")
-    one.add_argument("--form", type=int, choices=(1, 2), default=1, help="the canonical form, 1 by default")
-    one.add_argument("-o", "--output", metavar="FILE", help="write into FILE, once all of it is known")
-
-
-ADDED = {"compare": add_comparison, "look": add_looks, "canon": add_canon}
 
 
 def ordered(words: Sequence[str], error: Callable[[str], NoReturn]) -> list[str]:
@@ -194,37 +166,36 @@ def parsed(words: Sequence[str]) -> argparse.Namespace:
         check_files(found, error)
     elif found.task == "compare" and found.left == found.right == "-":
         error("standard input is named twice")
+    found.form = found.form or 1
     return found
 
 
 def check_files(found: argparse.Namespace, error: Callable[[str], NoReturn]) -> None:
     """Completes the arguments of a command on many files."""
-    sources = [found.files_from, found.files0_from, *(getattr(found, it, None) for it in ("verify", "since"))]
-    if [*found.path, *sources].count("-") > 1:
-        error("standard input is named twice")
-    has_paths = bool(found.path) or found.files_from is not None or found.files0_from is not None
-    is_staged = getattr(found, "staged", None) is not None
-    if not has_paths and getattr(found, "verify", None) is None and not is_staged:
-        error("at least one path is required")
-    if is_staged and (has_paths or found.quiet):
-        error("--staged goes without paths and --quiet")
-    if found.task == "manifest":
-        if found.verify is not None and found.form:
-            error("--verify goes without --form")
-        if found.verify is None and found.quiet:
-            error("--quiet goes with --verify")
-        found.task = "manifest" if found.verify is None else "verify"
+    sources = [found.files_from, found.files0_from]
+    has_paths, is_staged = bool(found.path) or sources != [None, None], found.staged is not None
+    is_verified, is_summed = found.verify is not None, found.since is not None or found.markdown
+    for is_wrong, told in [
+        ([*found.path, *sources, found.verify, found.since].count("-") > 1, "standard input is named twice"),
+        (not has_paths and not is_verified and not is_staged, "at least one path is required"),
+        (is_staged and (has_paths or found.quiet), "--staged goes without paths and --quiet"),
+        (is_verified and found.form, "--verify goes without --form"),
+        (found.task == "manifest" and found.quiet and not is_verified, "--quiet goes with --verify"),
+        (found.incremental == "-", "--incremental names a file"),
+        (
+            found.task == "look" and len(found.path) > (1 if is_summed else 2),
+            "look takes two files, or one folder, and --since and --markdown one folder",
+        ),
+    ]:
+        if is_wrong:
+            error(told)
     for option in ("junit", "output", "incremental", "markdown"):
-        name = getattr(found, option, None)
-        if name == "-" and option == "incremental":
-            error("--incremental names a file")
+        name = getattr(found, option)
         # A report never takes the place of a text, also through a link.
         if name and any(is_text(it) or unread_text(it) for it in (name, real(name))):
             error(f"--{option} {quoted(name)}: a file of such a name is a text, and no report takes its place")
-    found.form = getattr(found, "form", None) or 1
-    found.ending = getattr(found, "ending", None) or ENDINGS
-    if found.task == "look" and len(found.path) > (1 if found.since is not None or found.markdown else 2):
-        error("look takes two files, or one folder, and --since and --markdown one folder")
+    found.task = "verify" if is_verified else found.task
+    found.ending = found.ending or ENDINGS
 
 
 def named(found: argparse.Namespace) -> list[str]:
@@ -245,7 +216,7 @@ def named(found: argparse.Namespace) -> list[str]:
     return paths
 
 
-def end_by(number: int, run: Run | None) -> None:
+def end_by(number: int, run: Optional[Run]) -> None:
     """Ends this process by a signal, once the run has printed what it knows. Another signal ends it at once."""
     for it in {*SIGNALS, number}:
         signal.signal(it, signal.SIG_DFL)
@@ -255,7 +226,7 @@ def end_by(number: int, run: Run | None) -> None:
     os.kill(os.getpid(), number)
 
 
-def main(words: Sequence[str] | None = None) -> int:
+def main(words: Optional[Sequence[str]] = None) -> int:
     """Runs a command, and returns the exit status."""
     is_open, words = has_output(), sys.argv[1:] if words is None else words
     if words[:1] and words[0] in OWN:

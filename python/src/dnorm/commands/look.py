@@ -1,8 +1,6 @@
 """The pages of HTML that `dnorm-files look` prints. web/report.html has their style; web/look.js and web/report.js draw
 the pictures and the tables that need a script. The counts and the refusals are there without one."""
 
-from __future__ import annotations
-
 import base64
 import contextlib
 import hashlib
@@ -27,7 +25,7 @@ from ..manifests import Changes
 from ..pairs import Arcs, Curve, Differences, PairDifference
 from ..program import WEB, placed
 from ..records import SIZES, Record
-from .reports import counted
+from .reports import counted, groups_of
 from .staged import git
 
 # How many corners of a curve, arcs of a pair, and pairs around a pair a page has; how many causes, and files of one;
@@ -43,10 +41,9 @@ SAID = {
     "items": "They differ in the number of items.", "item": "They differ in item {place}.",
     "point": "They differ in the point of node {node}.",
 }  # fmt: skip
-# The colours of kinds and of files that are not accepted, and what a file is since a manifest.
+# The colours of kinds and of files that are not accepted.
 COLOURS = {"sp": "one", "min": "two", "max": "three", "ss": "four", "p2p": "five", "co": "six"}
 COLOURS |= {"refused": "bad", "failed": "worst"}
-SINCE = ("", "new", "changed", "renamed")
 
 
 def page(title: str, is_good: bool, sentence: str, parts: Iterable[str], data: object) -> str:
@@ -189,7 +186,7 @@ def around(found: Differences, pair: PairDifference) -> dict[str, object]:
 
 def page_of_folder(it: Collection, folder: str, status: int, changes: Optional[Changes]) -> str:
     """Returns the page of what is in a folder, and what has changed there since a manifest."""
-    kinds, groups = Counter(one.kind or one.status for one in it.records), groups_of(it.records)
+    kinds, groups = Counter(one.kind or one.status for one in it.records), graphs_in_groups(it.records)
     parts = [made_of(folder), section("Kinds", bar((name, kinds[name], colour) for name, colour in COLOURS.items()))]
     parts.append(section("Refused and failed files", *refusals(it.records)))
     if changes:
@@ -235,7 +232,7 @@ def summary_of(it: Collection, folder: str, status: int, changes: Optional[Chang
     faults = sorted((one for one in it.records if one.error), key=lambda one: one.status != "refused")
     causes = [(one.name, getattr(one.error, "line", None) or "", cause_of(one), one.hint or "") for one in faults]
     lists = [(name, names) for name, (_, names) in (lists_of(it, changes) if changes else {}).items() if names]
-    lists += [("one problem", names) for names in groups_of(it.records)]
+    lists += [("one problem", names) for names in graphs_in_groups(it.records)]
     told = [(what, len(names), ", ".join(names[:FILES]) + ", .." * (len(names) > FILES)) for what, names in lists]
     counts = counted(it.counts, ("accepted", "refused", "failed"))
     parts = [f"### dnorm: {plain(folder)}", f"{counts}; status {status}"]
@@ -268,34 +265,26 @@ def refusals(records: Sequence[Record]) -> list[str]:
         cells = []
         for it in found[:FILES]:
             line, text = (it.error.line, it.error.text) if isinstance(it.error, Refused) else (None, None)
-            code = f"<code>{escaped((text or '')[:120])}</code>"
-            hint = (it.hint or "").replace("\n", "; ")
-            cells.append([escaped(f"{it.name}:{line}" if line else it.name), code, escaped(hint)])
+            code, hint = escaped((text or "")[:120]), escaped((it.hint or "").replace("\n", "; "))
+            cells.append([escaped(f"{it.name}:{line}" if line else it.name), f"<code>{code}</code>", hint])
         more = f"<p>And {len(found) - FILES} more, in the table of files.</p>" if len(found) > FILES else ""
         summary = f"<summary>{escaped(cause)}: {len(found)}</summary>{table(['File', 'Line', 'Hint'], cells)}{more}"
         made.append(f"<details{' open' * (len(causes) < 4)}>{summary}</details>")
     return made + [f"<p>And {len(causes) - CAUSES} more causes.</p>"] * (len(causes) > CAUSES)
 
 
-def groups_of(records: Sequence[Record]) -> list[list[str]]:
-    """Returns the names of graphs that pose the same problem, in groups, the largest first. Links to a file are left
-    out."""
-    found = defaultdict[str, dict[tuple[int, int], str]](dict)
-    for it in records:
-        if it.checksum and it.kind in GRAPHS and os.path.exists(it.name):
-            of = os.stat(it.name)
-            found[it.checksum].setdefault((of.st_dev, of.st_ino), it.name)
-    return sorted((list(it.values()) for it in found.values() if len(it) > 1), key=lambda it: -len(it))
+def graphs_in_groups(records: Iterable[Record]) -> list[list[str]]:
+    """Returns the names of graphs that pose the same problem, in groups, the largest first."""
+    groups = groups_of(it for it in records if it.kind in GRAPHS).values()
+    return sorted((names for names in groups if len(names) > 1), key=lambda it: -len(it))
 
 
 def table_of(it: Collection, groups: Sequence[Sequence[str]], changes: Optional[Changes]) -> dict[str, object]:
     """Returns the data of the table of files, in columns: a text of all names by lines, and of all other cells by
     blanks. Causes and remarks are numbers of a list."""
-    kinds, changed_as = [*COLOURS], dict[str, int]()
-    places = {name: at for at, names in enumerate(groups, 1) for name in names}
-    if changes:
-        for at, changed in enumerate((changes.new, changes.changed, tuple(new for _, new in changes.renamed)), 1):
-            changed_as.update(dict.fromkeys(changed, at))
+    kinds, places = [*COLOURS], {name: at for at, names in enumerate(groups, 1) for name in names}
+    since = [changes.new, changes.changed, [new for _, new in changes.renamed]] if changes else []
+    changed_as = {name: at for at, names in enumerate(since, 1) for name in names}
     notes = [cause_of(one) or "; ".join(remark.partition(":")[0] for remark in one.remarks) for one in it.records]
     numbers = {note: at for at, note in enumerate(dict.fromkeys(notes))}
     columns: dict[str, Iterable[Optional[int]]] = {"kind": (kinds.index(one.kind or one.status) for one in it.records)}
@@ -306,6 +295,11 @@ def table_of(it: Collection, groups: Sequence[Sequence[str]], changes: Optional[
     columns |= {"since": (changed_as.get(one.name) for one in it.records)} if changes else {}
     texts = {name: ("" if n is None else str(n) for n in cells) for name, cells in columns.items()}
     told: dict[str, object] = {name: " ".join(cells) for name, cells in texts.items()}
-    told |= {"kinds": kinds, "colours": [*COLOURS.values()], "notes": [*map(shown, numbers)], "sinces": SINCE}
+    told |= {
+        "kinds": kinds,
+        "colours": [*COLOURS.values()],
+        "notes": [*map(shown, numbers)],
+        "sinces": ["", "new", "changed", "renamed"],
+    }
     told["names"] = "\n".join(shown(one.name) for one in it.records)
     return {"files": told}

@@ -1,33 +1,28 @@
 """What `dnorm-files` prints: a line for each file, how two files differ, and a report for CI services."""
 
-from __future__ import annotations
-
+import contextlib
 import csv
 import io
 import os
 import re
-from collections import Counter
-from collections.abc import Container, Iterator, Mapping, Sequence
+from collections import Counter, defaultdict
+from collections.abc import Container, Iterable, Iterator, Mapping, Sequence
 from xml.etree import ElementTree
 
 from ..console import shown
 from ..errors import Refused
 from ..folders import LINK_TO_FOLDER
-from ..instances import Graph, Max, Min
+from ..instances import LETTERS, Graph, Max, Min
 from ..library import Held
 from ..manifests import line_with
 from ..names import ending_of
 from ..pairs import VALUES, Differences, pairs_of, rows_of
 from ..records import SIZES, Contents, Range, Record
 
-# The sums that `list` tells.
-SUMS = ("capacity", "capacity_times_cost", "supply", "demand")
 # The heads of the table of `list`.
 FIELDS = ("flow", "id", *dict.fromkeys(field for fields in VALUES.values() for field in fields))
 HEADS = ["name", "kind", *SIZES, *(it for it in Contents._fields if it != "fields"), "checksum"]
 HEADS += [f"{it}_{of}" for it in FIELDS for of in Range._fields]
-# The letters of the lines that tell arcs, points and items, and what these are called.
-LINES = {"co": ("v", "points"), "ss": ("s", "items"), "p2p": ("q", "items")}
 # How what is counted is told, one and several. All else is told by its name.
 TOLD = {
     "same": ("the same", "the same"), "groups": ("group", "groups"), "links": ("link", "links"),
@@ -60,6 +55,21 @@ def told_others(others: Mapping[str, str], most: int = 6) -> str:
     return ", ".join([*(f"{it} {n}" for it, n in told[:most]), *more])
 
 
+def groups_of(records: Iterable[Record]) -> dict[str, list[str]]:
+    """Returns the names of accepted files that pose the same problem, by their checksums. Of a file and links to it,
+    there is one name, that of the file itself if it is there."""
+    found = defaultdict[str, dict[tuple[int, int], str]](dict)
+    for it in records:
+        # A file may have gone meanwhile.
+        with contextlib.suppress(OSError):
+            if it.checksum:
+                of = os.stat(it.name)
+                name = found[it.checksum].setdefault((of.st_dev, of.st_ino), it.name)
+                if os.path.islink(name) and not os.path.islink(it.name):
+                    found[it.checksum][of.st_dev, of.st_ino] = it.name
+    return {checksum: [*files.values()] for checksum, files in found.items()}
+
+
 def line_of(it: Record) -> str:
     if it.error:
         return line_with(it.name, after=it.what)
@@ -86,10 +96,9 @@ def text_of(it: Record) -> str:
         more = f", merged {it.merged}, self-loops {it.self_loops}"
     lines.append(f"lines {it.declared}, canonical {it.canonical}{more}")
     lines += [f"{field} {of.least} to {of.greatest}, {of.bits} bits" for field, of in it.contents.fields.items()]
-    sums = {name.replace("_", " "): getattr(it.contents, name) for name in SUMS}
-    told = [f"{what} {value}" for what, value in sums.items() if value is not None]
-    lines += [f"sums: {', '.join(told)}"] if told else []
-    lines.append(f"checksum {it.checksum}")
+    sums = zip(Contents._fields[1:5], it.contents[1:5])
+    told = [f"{name.replace('_', ' ')} {value}" for name, value in sums if value is not None]
+    lines += [*([f"sums: {', '.join(told)}"] if told else []), f"checksum {it.checksum}"]
     return "".join(f"    {line}\n" for line in lines)
 
 
@@ -116,7 +125,7 @@ def annotation_of(it: Record) -> str:
     return f"::{level} {','.join(fields)}::{escaped(text, NO_MESSAGE)}\n" if told else ""
 
 
-def escaped(text: str, forbidden: re.Pattern[str]) -> str:
+def escaped(text: str, forbidden: "re.Pattern[str]") -> str:
     """Returns a text in which forbidden characters are written as GitHub reads them."""
     return forbidden.sub(lambda it: f"%{ord(it[0]):02X}", text)
 
@@ -160,7 +169,7 @@ def lines_of_differences(it: Differences) -> Iterator[str]:
     yield str(it.first)
     if it.kind is None:
         return
-    letter, what = LINES.get(it.kind, ("a", "pairs"))
+    letter, what = LETTERS[it.kind], {"co": "points", "ss": "items", "p2p": "items"}.get(it.kind, "pairs")
     for name, left, right in it.values:
         yield f"{name}: {left} left, {right} right"
     if it.supplies:
@@ -173,11 +182,10 @@ def lines_of_differences(it: Differences) -> Iterator[str]:
         first = [f"{tail} {head}" for tail, head in it.reversed[: max(1, len(it.pairs))]]
         yield f"reversed: {len(it.reversed)}, from {', '.join(first)}{', ..' * (len(first) < len(it.reversed))}"
     for pair in it.pairs:
-        key = () if letter in "sq" else pair.key
+        # An item is told by its place.
+        key, place = ((), f", item {pair.key[0]}") if letter in "sq" else (pair.key, "")
         for mark, arcs in (("<", pair.left), (">", pair.right)):
-            for values in arcs:
-                place = f", item {pair.key[0]}" if letter in "sq" else ""
-                yield f"{mark} {' '.join(map(str, (letter, *key, *values)))}{place}"
+            yield from (f"{mark} {' '.join(map(str, (letter, *key, *values)))}{place}" for values in arcs)
 
 
 def lines_of_show(it: Held) -> Iterator[str]:

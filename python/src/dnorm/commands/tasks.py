@@ -1,7 +1,5 @@
 """The commands of `dnorm-files` on many files. Each reads its files once, and prints their records or views."""
 
-from __future__ import annotations
-
 import contextlib
 import errno
 import json
@@ -9,27 +7,35 @@ import os
 from argparse import Namespace
 from collections import Counter
 from collections.abc import Callable
-from itertools import islice
+from itertools import chain, islice
 from typing import Optional
 
-from ..console import Console
 from ..calls import canon_into
+from ..console import Console
 from ..errors import DnormError, Read
-from ..files import Bounds, Copied, File, Sink, Text, enough_memory, reason_of, sink_of
+from ..files import Bounds, Copied, File, Sink, Text, enough_memory, sink_of
 from ..folders import Collection, Files, Found, find, in_order_of_names
-from ..manifests import Entry, Manifest, Mark, line_with, manifest_changes, manifest_in, mark_of, read_manifest
 from ..library import held
-from ..limits import Limit
+from ..limits import Limit, Workers
+from ..manifests import Entry, Manifest, Mark, line_with, manifest_changes, manifest_in, manifest_text, read_manifest
 from ..manifests import renewed
-from ..manifests import text_of as text_of_manifest
-from ..names import place_of, real
+from ..names import parts_of, place_of, real, stem_of
 from ..pairs import differences
-from ..records import Partners, Reading, Record, Tells, counts_of
+from ..records import WITH_COMPANIONS, Partners, Reading, Record, Tells, counts_of
 from .look import page_of_folder, page_of_pair, summary_of
-from .reports import HEADS, annotation_of, causes_of, counted, junit, line_of, lines_of_differences, lines_of_show
+from .reports import (
+    HEADS,
+    annotation_of,
+    causes_of,
+    counted,
+    groups_of,
+    junit,
+    line_of,
+    lines_of_differences,
+    lines_of_show,
+)
 from .reports import record_of_differences, row_of, text_of, told_others
 from .staged import is_strict, staged
-from .workers import Workers
 
 # The exit statuses besides 0. The greatest one that applies counts.
 DIFFERS, REFUSED, FAILED = 1, 2, 4
@@ -68,7 +74,7 @@ class Run:
 
     @property
     def is_json(self) -> bool:
-        return bool(getattr(self.words, "json", False)) or getattr(self.words, "format", "") == "json"
+        return bool(self.words.format == "json")
 
     def reading(self, found: Found, tells: Tells, partners: Optional[Partners] = None) -> Reading:
         """Returns how these files are read whose records tell so much, and more as JSON."""
@@ -82,30 +88,30 @@ class Run:
 
     def check(self) -> None:
         """Checks files, and prints a line for each, and at the end the refusals with their causes."""
-        words = self.words
+        words, is_staged = self.words, self.words.staged is not None
         with contextlib.ExitStack() as stack:
-            if words.staged is not None:
+            if is_staged:
                 # The texts are in another folder, which becomes the current one.
                 words.junit = words.junit if words.junit in (None, "-") else os.path.abspath(words.junit)
-                words.strict = words.strict or is_strict()
-                words.timeout = words.timeout or MINUTE
-            found = self.found() if words.staged is None else staged(words.staged or None, words.exclude, stack)
+                words.strict, words.timeout = words.strict or is_strict(), words.timeout or MINUTE
+            found = staged(words.staged or None, words.exclude, stack) if is_staged else self.found()
             report = stack.enter_context(self.sink(words.junit)) if words.junit else None
             reading = self.reading(found, "kind", self.partners(found) if words.companions else None)
             self.read(in_order_of_names(found.files), reading.record, self.print_record)
             if report:
                 report.take(junit(self.records))
         self.print_end()
-        if words.staged is None or self.status or any(it.remarks for it in self.records):
+        if not is_staged or self.status or any(it.remarks for it in self.records):
             self.sum_up_checks()
-        if words.staged is not None and self.status:
+        if is_staged and self.status:
             self.console.complain("git config --add dnorm.exclude PATTERN leaves files out of this check\n")
 
     def partners(self, found: Found) -> Partners:
         """Returns the partners of files, and adds the companions of graphs that are named."""
         partners = Partners(found.files)
-        for name in [it for it in self.words.path if it in found.files]:
-            found.files.update(dict.fromkeys(it for it in partners.companions_of(name) if it not in found.files))
+        graphs = [it for it in self.words.path if it in found.files and parts_of(it)[1] in WITH_COMPANIONS]
+        beside = (it for name in graphs for it in partners.companions.get(stem_of(name), ()))
+        found.files = {**dict.fromkeys(beside), **found.files}
         return partners
 
     def sum_up_checks(self) -> None:
@@ -141,8 +147,7 @@ class Run:
         """Prints the canonical checksum of each file, or writes them into a file. If that is one with the marks of
         files, those that have not changed are not read."""
         words, found = self.words, self.found()
-        reading = self.reading(found, "checksum")
-        output = words.output if words.incremental is None else words.incremental
+        reading, output = self.reading(found, "checksum"), words.incremental or words.output
         # There may be no such file yet.
         is_renewed = words.incremental is not None and os.path.lexists(words.incremental)
         known = self.listed(words.incremental, is_empty=True) if is_renewed else {}
@@ -165,7 +170,7 @@ class Run:
             if target and any(it.status == "failed" for it in self.records):
                 self.console.complain(line_with(output, after=": not written, since it would lack what failed"))
                 raise Incomplete
-            text = text_of_manifest(entries, words.form, has_marks=words.incremental is not None)
+            text = manifest_text(entries, words.form, has_marks=words.incremental is not None)
             if target:
                 target.take(os.fsencode(text))
             elif not self.is_json:
@@ -230,33 +235,11 @@ class Run:
 
     def same(self) -> None:
         """Prints groups of files that pose the same problem. A link to a file of a group is none of them."""
-        groups: dict[str, dict[tuple[int, int], str]] = {}
-        marks: dict[str, Mark] = {}
         found = self.found()
-        links, reading = 0, self.reading(found, "checksum")
-
-        def record(name: str) -> Record:
-            one = reading.record(name)
-            try:
-                marks[name] = mark_of(name)
-            except OSError as error:
-                # It has gone meanwhile.
-                return one if one.error else Record(name, error=Read(name, reason_of(error)))
-            return one
-
-        def take(it: Record) -> None:
-            nonlocal links
-            if not it.checksum:
-                self.console.complain(line_of(it))
-                return
-            group, file = groups.setdefault(it.checksum, {}), (marks[it.name].device, marks[it.name].number)
-            links += file in group
-            # A file itself comes before its links.
-            if file not in group or os.path.islink(group[file]) and not os.path.islink(it.name):
-                group[file] = it.name
-
-        self.read(found.files, record, take)
-        same = [(sum_, sorted(it.values(), key=os.fsencode)) for sum_, it in groups.items() if len(it) > 1]
+        self.read(found.files, self.reading(found, "checksum").record, self.complain_of)
+        groups = groups_of(self.records)
+        links = sum(it.checksum is not None for it in self.records) - sum(map(len, groups.values()))
+        same = [(sum_, sorted(names, key=os.fsencode)) for sum_, names in groups.items() if len(names) > 1]
         if self.is_json:
             lines = (json.dumps({"checksum": sum_, "names": names}) + "\n" for sum_, names in same)
             self.console.print("".join(lines))
@@ -285,7 +268,7 @@ class Run:
         words = self.words
         left, right = map(self.given, (words.left, words.right))
         found = differences(left, right, words.limit, timeout=words.timeout)
-        if words.json:
+        if self.is_json:
             self.console.print(json.dumps(record_of_differences(found)) + "\n")
         elif not words.quiet:
             self.console.print("".join(f"{it}\n" for it in lines_of_differences(found)))
@@ -293,9 +276,8 @@ class Run:
 
     def canon(self) -> None:
         words = self.words
-        file, limit = self.given(words.file), Limit(words.timeout, words.file)
         with self.sink(words.output or "-") as sink:
-            canon_into(sink.take, file, words.form, limit)
+            canon_into(sink.take, self.given(words.file), words.form, Limit(words.timeout, words.file))
 
     def show(self) -> None:
         """Prints what `dnorm show` prints of each file, below its name if there are several."""
@@ -312,8 +294,7 @@ class Run:
                     self.console.complain(line_of(self.records[-1]) + causes_of(self.records[-1]))
                     continue
                 self.records.append(Record(name, it.kind))
-                self.console.print(line_with(name, after=":") if len(found.files) > 1 else "")
-                lines = lines_of_show(it)
+                lines = chain([line_with(name, after=":")] if len(found.files) > 1 else [], lines_of_show(it))
                 while piece := "".join(islice(lines, 1000)):
                     self.console.print(piece)
         if len(found.files) > 1 or self.others:
@@ -334,20 +315,20 @@ class Run:
             return
         older = None if words.since is None else read_manifest(self.given(words.since))
         words.form = older.form if older else words.form
-        found = self.found()
-        partners = self.partners(found)
-        self.read(in_order_of_names(found.files), self.reading(found, "whole", partners).record, lambda _: None)
+        found, changes = self.found(), None
+        reading = self.reading(found, "whole", self.partners(found))
+        self.read(in_order_of_names(found.files), reading.record, lambda _: None)
         collection = Collection(tuple(self.records), found.others, found.excluded, words.form)
-        changes = None
         if older:
             places = {place_of(it): it for it in collection.manifest.checksums}
             sums = {places.get(place_of(it), it): checksum for it, checksum in older.checksums.items()}
             changes = manifest_changes(Manifest(older.form, sums), collection.manifest)
+        known = (collection, words.path[0], self.status, changes)
         if words.markdown:
             with self.sink(words.markdown) as sink:
-                sink.take(summary_of(collection, words.path[0], self.status, changes).encode())
+                sink.take(summary_of(*known).encode())
         if words.markdown != "-":
-            self.console.print(page_of_folder(collection, words.path[0], self.status, changes))
+            self.console.print(page_of_folder(*known))
         self.sum_up_checks()
 
     def found(self) -> Found:
@@ -381,8 +362,9 @@ class Run:
             for at in range(len(names)):
                 found = workers.result(at, self.console.draw)
                 ended += 1
-                self.taken(found)
-                if getattr(self.words, "exit_first", False) and found.error:
+                self.records.append(found)
+                take(found)
+                if self.words.exit_first and found.error:
                     self.unfinished = f"{ended} of {len(names)} done"
                     workers.stop()
                     break
@@ -391,14 +373,11 @@ class Run:
             self.unfinished = f"{ended + len(self.rest)} of {len(names)} done"
             raise
 
-    def taken(self, it: Record) -> None:
-        self.records.append(it)
-        self.take(it)
-
     def stop(self) -> None:
         """Prints what is known of a run that a signal ends."""
         for it in self.rest:
-            self.taken(it)
+            self.records.append(it)
+            self.take(it)
         if self.unfinished:
             if self.words.task == "check":
                 self.print_end()
@@ -409,14 +388,18 @@ class Run:
         if self.is_json:
             self.console.print(it.as_json())
         else:
+            self.complain_of(it)
+
+    def complain_of(self, it: Record) -> None:
+        if it.error:
             self.console.complain(line_of(it))
 
-    def sum_up(self, first: dict[str, int], more: dict[str, int] | None = None) -> None:
+    def sum_up(self, first: dict[str, int], more: Optional[dict[str, int]] = None) -> None:
         """Prints what was counted, before and after the refused and failed files: as a last JSON object, too."""
-        found, done = counts_of(self.records), DONE[self.words.task]
-        counts = first or {done: found["accepted"]}
-        counts |= {it: found[it] for it in ("refused", "failed")}
-        counts |= {**(more or {}), "other_files": len(self.others), "excluded": self.excluded}
+        found = counts_of(self.records)
+        counts = first or {DONE[self.words.task]: found["accepted"]}
+        counts |= {it: found[it] for it in ("refused", "failed")} | (more or {})
+        counts |= {"other_files": len(self.others), "excluded": self.excluded}
         if self.is_json:
             ended = {"status": self.status, "form": self.words.form, "unfinished": self.unfinished or None}
             self.console.print(json.dumps({"summary": {**counts, **ended}}) + "\n")

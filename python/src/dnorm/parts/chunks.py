@@ -8,13 +8,13 @@ canonicalised again, one after another; the ranges, one after another, are the a
 All files of a run are in one folder: head.raw, chunk.N (lines as they are), chunk.N.arcs and range.N.arcs (canonical
 texts)."""
 
-from __future__ import annotations
-
 import contextlib
 import mmap
 import os
 import re
+import signal
 import subprocess
+import threading
 from argparse import Namespace
 from array import array
 from collections.abc import Iterable, Iterator, Sequence
@@ -22,22 +22,194 @@ from concurrent.futures import FIRST_EXCEPTION, ThreadPoolExecutor, wait
 from dataclasses import dataclass
 from io import BytesIO
 from itertools import chain, islice
-from typing import BinaryIO, NamedTuple
+from typing import Any, BinaryIO, NamedTuple, Optional, Union, cast
 
 from ..console import Console
-from ..errors import DnormError, Memory, Refused, Write
+from ..errors import DnormError, Failed, Memory, NoProgram, Refused, Write
 from ..files import of_stream, reason_of, write_all
 from ..limits import heeding_signals
-from .runs import ARC, Piece, Result, blocks, canon, canon_part, children, lines, whole
+from ..refusals import REFUSALS
 
+# The line on standard error of a run that failed, by `dnorm help`.
+LINE = re.compile(r"(-|out|dnorm)(?::(\d+|end))?: (\d+) (\w+)\n", re.ASCII)
+# The number of bytes that are read at a time.
+BLOCK = 1 << 20
+# A line whose first word is `a`.
+ARC = re.compile(rb"^[ \t\r]*a(?:[ \t\r]|$)", re.M)
+# How many lines precede the arcs in the canonical text of a part.
+HEAD = {"min": 1, "max": 3, "sp": 1}
+# The lines of a part between its problem line and its arcs, which make it a text of its own. In `max` these include a
+# source and a sink, any two nodes. In `max` and `min` they include an arc that means nothing, so that a later node line
+# is a LateNode, as it is in the whole text.
+FRONT = {"min": b"a 1 1 0 0 0\n", "max": b"n 1 s\nn 2 t\na 1 1 0\n", "sp": b""}
 # A line whose first word is `p`.
 PROBLEM = re.compile(rb"^[ \t\r]*p[ \t\r].*", re.M)
 # The longest wait for a job, in seconds. A signal that comes just before a wait does not end it.
 PAUSE = 0.1
-# A part is given by its pieces, and by the name of its files.
-Part = tuple[Iterable[Piece], str]
 # About how many tails of a chunk are looked at, to choose the ranges; and how many lines a chunk has at least.
 TAILS, LINES = 100, 1_000_000
+
+
+class Broken(Failed):
+    """A run of the program ended otherwise than the program does."""
+
+    @property
+    def rest(self) -> str:
+        return f": dnorm {self.reason}"
+
+
+class Children:
+    """The processes that run, in all threads."""
+
+    def __init__(self) -> None:
+        self._lock = threading.Lock()
+        self._running: set[subprocess.Popen[bytes]] = set()
+        self._is_stopped = False
+
+    @contextlib.contextmanager
+    def running(self, words: Sequence[str], **streams: Any) -> Iterator[subprocess.Popen[bytes]]:
+        """Starts a process, and waits for its end. Kills it if anything is raised."""
+        # `stop` waits for a process that is being started.
+        with self._lock:
+            if self._is_stopped:
+                raise NoProgram(words[0], "all runs were stopped")
+            try:
+                process = subprocess.Popen(words, bufsize=0, **streams)
+            except (OSError, ValueError) as error:
+                raise NoProgram(words[0], reason_of(error)) from error
+            self._running.add(process)
+        try:
+            yield process
+        except BaseException:
+            process.kill()
+            raise
+        finally:
+            process.wait()
+            for it in (process.stdin, process.stdout, process.stderr):
+                if it:
+                    it.close()
+            with self._lock:
+                self._running.discard(process)
+
+    def stop(self) -> None:
+        """Kills all processes that run, and lets no other start."""
+        with self._lock:
+            self._is_stopped = True
+            for it in self._running:
+                it.kill()
+
+
+children = Children()
+
+
+def canon(program: str, text: Iterable[bytes], form: int, to: Union[int, BinaryIO]) -> None:
+    """Writes the canonical text of a text in blocks into a file. Raises Refused if the text has a fault, Memory, Write,
+    NoProgram, and Broken if the program does not answer as it should."""
+    words = [program, "canon", "--form", str(form), "-"]
+    with children.running(words, stdin=subprocess.PIPE, stdout=to, stderr=subprocess.PIPE) as process:
+        if process.stdin and process.stderr:
+            # The program reads no further once it has found a fault.
+            with contextlib.suppress(BrokenPipeError):
+                for block in text:
+                    write_all(cast(BinaryIO, process.stdin), block)
+            process.stdin.close()
+            error = error_of(process.stderr.read().decode("ascii", "backslashreplace"), process.wait())
+            if error:
+                raise error
+
+
+def error_of(line: str, status: int) -> Optional[DnormError]:
+    """Returns the error that a run with this line on standard error has ended with, if any."""
+    if status < 0:
+        names = {it.value: f" ({it.name})" for it in signal.Signals}
+        return Broken("dnorm", f"was ended by signal {-status}{names.get(-status, '')}")
+    found = LINE.fullmatch(line)
+    name, place, number, word = found.groups() if found else ("", "", "0", "")
+    is_known = REFUSALS.get(int(number), ("", ""))[0] == word and bool(place) == (int(number) < 30)
+    if is_known and status == 2 and name == "-" and number not in ("30", "31", "32", "33"):
+        return Refused(name, int(place) if place and place != "end" else None, int(number), word)
+    if is_known and status == 4 and (name, number) == ("out", "33"):
+        return Write("out")
+    if is_known and status == 4 and number == "30" and name != "out":
+        return Memory(name)
+    reason = f"did not answer as it should (its status was {status}, and it printed {line!r})"
+    return Broken("dnorm", reason) if status else None
+
+
+class Piece(NamedTuple):
+    """Bytes of a file that are whole lines."""
+
+    path: str
+    start: int
+    end: int
+
+
+class Result(NamedTuple):
+    """What became of a part, whose canonical text is in a file. Of its lines, `arcs` are arc lines, which gave `made`
+    canonical arcs. `line` of the part has the first fault, `refusal`; without a fault it is 0. The arcs begin at byte
+    `start` of the file, which has `size` bytes."""
+
+    arcs: int
+    made: int
+    line: int
+    start: int
+    size: int
+    refusal: str
+
+
+def whole(path: str) -> Piece:
+    return Piece(path, 0, os.path.getsize(path))
+
+
+def blocks(piece: Piece) -> Iterator[bytes]:
+    with open(piece.path, "rb", buffering=0) as file:
+        file.seek(piece.start)
+        rest = piece.end - piece.start
+        while rest > 0 and (block := file.read(min(BLOCK, rest))):
+            rest -= len(block)
+            yield block
+
+
+def lines(blocks: Iterable[bytes]) -> Iterator[bytes]:
+    """Yields bytes in blocks of whole lines. Only the last line may lack its end."""
+    rest = b""
+    for block in blocks:
+        end = block.rfind(b"\n") + 1
+        if end:
+            yield rest + block[:end]
+            rest = b""
+        rest += block[end:]
+    if rest:
+        yield rest
+
+
+def arcs_in(block: bytes) -> int:
+    """Returns how many of these whole lines are arc lines."""
+    count = block.count(b"\na ") + block.startswith(b"a ")
+    # No line can be missing in this count if it has all of them.
+    is_all = count == block.count(b"\n") + (not block.endswith(b"\n"))
+    return count if is_all else len(ARC.findall(block))
+
+
+def canon_part(program: str, kind: str, nodes: int, form: int, pieces: Iterable[Piece], to: str) -> Result:
+    """Writes the canonical text of a part into a file, and returns the result."""
+    arcs = sum(arcs_in(block) for piece in pieces for block in lines(blocks(piece)))
+    head = f"p {kind} {nodes} {arcs + (kind != 'sp')}\n".encode() + FRONT[kind]
+    with open(to, "wb") as file:
+        try:
+            canon(program, chain([head], *map(blocks, pieces)), form, file)
+        except Refused as error:
+            if error.line is None:
+                raise
+            line = error.line - head.count(b"\n")
+            return Result(arcs, 0, line, 0, os.path.getsize(to), f"{error.number} {error.word}")
+    with open(to, "rb") as made:
+        first = [made.readline() for _ in range(HEAD[kind])]
+    return Result(arcs, int(first[0].split()[3]), 0, sum(map(len, first)), os.path.getsize(to), "")
+
+
+# A part is given by its pieces, and by the name of its files.
+Part = tuple[Iterable[Piece], str]
 
 
 class Ended(Exception):
@@ -80,9 +252,9 @@ class Parts:
         # The refusal of a `max` text without a source or a sink, which is reported only at the end.
         self.missing = ""
 
-    def run(self) -> None:
-        """Reads the text from standard input, and writes its canonical text."""
-        chunks = self.cut_text()
+    def run(self, text: BinaryIO) -> None:
+        """Reads the text, and writes its canonical text."""
+        chunks = self.cut_text(text)
         if chunks:
             self.read_head(chunks[0])
         if not chunks or self.kind == "max" and self.nodes <= 1:
@@ -113,12 +285,12 @@ class Parts:
         if self.console.is_terminal and what:
             self.console.complain(f"canon-in-parts: {what}\n")
 
-    def cut_text(self) -> list[Chunk]:
-        """Cuts standard input into the head, with all lines before the first arc line, and chunks of whole lines."""
+    def cut_text(self, text: BinaryIO) -> list[Chunk]:
+        """Cuts the text into the head, with all lines before the first arc line, and chunks of whole lines."""
         self.tell("cutting the text")
         chunks: list[Chunk] = []
         left = before = 0
-        with open(0, "rb", buffering=0, closefd=False) as text, contextlib.ExitStack() as stack:
+        with text, contextlib.ExitStack() as stack:
             file = stack.enter_context(open(self.head, "wb", buffering=0))
             for block in lines(of_stream(text)):
                 first = None if chunks else ARC.search(block)
@@ -202,7 +374,9 @@ class Parts:
                 raise fail(4, "a part was lost on its way")
         return results
 
-    def judged(self, chunks: Sequence[Chunk], results: Sequence[Result]) -> tuple[list[Chunk], int, int, Fault | None]:
+    def judged(
+        self, chunks: Sequence[Chunk], results: Sequence[Result]
+    ) -> tuple[list[Chunk], int, int, Optional[Fault]]:
         """Visits the chunks in their order, up to the first line that has a fault in its chunk, or that is one arc line
         too many. Later chunks are left out, and this chunk keeps the lines before. Returns the chunks, how many arc
         lines and canonical arcs they have, and the fault."""
@@ -210,7 +384,9 @@ class Parts:
         for chunk, result in zip(chunks, results):
             line, refusal = result.line, result.refusal
             if seen + result.arcs > self.declared:
-                over = line_of_arc(chunk.path, self.declared - seen + 1)
+                with open(chunk.path, "rb") as file:
+                    arc_lines = (at for at, it in enumerate(file, 1) if ARC.match(it))
+                    over = next(islice(arc_lines, self.declared - seen, None))
                 if not line or line >= over:
                     line, refusal = over, "7 TooManyLines"
             seen += result.arcs
@@ -231,7 +407,9 @@ class Parts:
                 os.remove(chunk.path)
         return kept, seen, made, None
 
-    def too_large(self, chunks: Sequence[Chunk], ranges: Sequence[Slices], results: Sequence[Result]) -> Fault | None:
+    def too_large(
+        self, chunks: Sequence[Chunk], ranges: Sequence["Slices"], results: Sequence[Result]
+    ) -> Optional[Fault]:
         """Returns the earliest line of the text at which the sum of a pair is too large across chunks."""
         found = []
         for slices, result in zip(ranges, results):
@@ -240,7 +418,7 @@ class Parts:
                 # The line belongs to the chunk of the slice that contains it. The slices before it, followed by the
                 # lines of the chunk, show which line it is.
                 at, before = 0, 0
-                while before + (count := line_count(pieces[at])) < result.line:
+                while before + (count := sum(it.count(b"\n") for it in blocks(pieces[at]))) < result.line:
                     at, before = at + 1, before + count
                 chunk = next(it for it in chunks if it.arcs.path == pieces[at].path)
                 shown = self.canon("", [([*pieces[:at], whole(chunk.path)], f"{self.folder}/sum")], 1)[0]
@@ -260,32 +438,18 @@ class Parts:
             if not self.has_output:
                 raise OSError
             write_all(self.out, f"p {self.kind} {self.nodes} {count}\n".encode())
-            pour(self.out, Piece(at, end, os.path.getsize(at)))
-            for (_, path), result in zip(parts, results):
-                pour(self.out, Piece(f"{path}.arcs", result.start, result.size))
-                os.remove(f"{path}.arcs")
+            arcs = (Piece(f"{path}.arcs", result.start, result.size) for (_, path), result in zip(parts, results))
+            for piece in chain([Piece(at, end, os.path.getsize(at))], arcs):
+                for block in blocks(piece):
+                    write_all(self.out, block)
+                os.remove(piece.path)
         except OSError as error:
             raise Write(self.options.output or "out", reason_of(error) if self.options.output else "") from error
-
-
-def pour(to: BinaryIO, *pieces: Piece) -> None:
-    for block in chain.from_iterable(map(blocks, pieces)):
-        write_all(to, block)
 
 
 def end_of(file: Iterable[bytes], number: int) -> int:
     """Returns where the line of this number ends in a file."""
     return sum(map(len, islice(file, number)))
-
-
-def line_count(piece: Piece) -> int:
-    return sum(block.count(b"\n") for block in blocks(piece))
-
-
-def line_of_arc(path: str, number: int) -> int:
-    """Returns the number of the line of a file with this arc line, counted among the arc lines."""
-    with open(path, "rb") as file:
-        return next(islice((at for at, line in enumerate(file, 1) if ARC.match(line)), number - 1, None))
 
 
 def tail_on(line: bytes) -> int:
@@ -306,16 +470,18 @@ def tails_of(arcs: Piece) -> Iterator[int]:
                 yield tail_on(line)
 
 
+@dataclass
 class Slices:
     """The slices of all chunks, in their order, that are one range: those that are not empty. `cuts` has the places at
     which each chunk is cut."""
 
-    def __init__(self, chunks: Sequence[Chunk], cuts: Sequence[Sequence[int]], number: int) -> None:
-        self._chunks, self._cuts, self._number = chunks, cuts, number
+    chunks: Sequence[Chunk]
+    cuts: Sequence[Sequence[int]]
+    number: int
 
     def __iter__(self) -> Iterator[Piece]:
-        for chunk, places in zip(self._chunks, self._cuts):
-            start, end = places[self._number : self._number + 2]
+        for chunk, places in zip(self.chunks, self.cuts):
+            start, end = places[self.number : self.number + 2]
             if start < end:
                 yield Piece(chunk.arcs.path, start, end)
 
@@ -330,7 +496,7 @@ def ranges_of(chunks: Sequence[Chunk], count: int) -> list[Slices]:
     return [Slices(chunks, cuts, it) for it in range(len(bounds) + 1)]
 
 
-def cuts_of(arcs: Piece, bounds: Iterable[int]) -> array[int]:
+def cuts_of(arcs: Piece, bounds: Iterable[int]) -> "array[int]":
     """Returns where canonical arcs begin, where the first one begins whose tail is not below each of the bounds, which
     rise, and where they end."""
     cuts = array("q", [arcs.start])

@@ -1,7 +1,5 @@
 """The command line of canon-in-parts."""
 
-from __future__ import annotations
-
 import argparse
 import contextlib
 import os
@@ -11,15 +9,14 @@ import subprocess
 import sys
 import tempfile
 from collections.abc import Iterator, Sequence
-from typing import Any, BinaryIO, ContextManager
+from typing import Any, BinaryIO, ContextManager, Optional
 
 from ..console import SIGNALS, Console, Parser, Stopped, has_output, heed, is_open, number
 from ..errors import DnormError, Memory, Write
 from ..files import file_at, reason_of
 from ..names import packed_of
 from ..program import find_program, processors
-from .chunks import Ended, Parts, fail
-from .runs import children
+from .chunks import Ended, Parts, children, fail
 
 ABOUT = """\
 Writes the canonical text of a graph in parts: the bytes that `dnorm canon FILE` writes, without a process that keeps
@@ -91,12 +88,12 @@ def run(words: Sequence[str], has_input: bool, is_written: bool) -> None:
     found.output = None if found.output == "-" else found.output
     if found.output and packed_of(found.output)[1]:
         raise fail(3, f"-o {found.output}: the text is not compressed")
-    open_input(found.file, has_input)
+    text = opened(found.file, has_input)
     with folder_in(found.tmpdir) as at:
         try:
             own: ContextManager[BinaryIO] = open(1, "wb", buffering=0, closefd=False)
             with file_at(found.output) if found.output else own as out:
-                Parts(found, at, program, out, is_written or bool(found.output)).run()
+                Parts(found, at, program, out, is_written or bool(found.output)).run(text)
         except Memory as error:
             raise Ended(4, f"{found.file}{error.rest}") from error
         except Write as error:
@@ -126,22 +123,16 @@ def folder_in(place: str) -> Iterator[str]:
         signal.pthread_sigmask(signal.SIG_UNBLOCK, SIGNALS)
 
 
-def open_input(name: str, has_input: bool) -> None:
-    """Makes a file standard input."""
+def opened(name: str, has_input: bool) -> BinaryIO:
     try:
-        if name != "-":
-            fd = os.open(name, os.O_RDONLY)
-            os.dup2(fd, 0)
-            os.close(fd)
-            has_input = True
-        if not has_input:
+        if name == "-" and not has_input:
             raise OSError
-        os.read(0, 0)
+        return open(0 if name == "-" else name, "rb", buffering=0, closefd=name != "-")
     except OSError:
         raise Ended(4, f"{name}: 31 Read") from None
 
 
-def main(words: Sequence[str] | None = None) -> int:
+def main(words: Optional[Sequence[str]] = None) -> int:
     has_input, is_written = is_open(0), has_output()
     heed()
     status, line = 0, ""

@@ -1,5 +1,5 @@
 use Rattle.std.proofs.Common.{◌≡◌, length}
-use Rattle.dn_arc.specs.State.Steps.{step_past}
+use Rattle.dn_arc_theory.specs.State.Steps.{step_past}
 use Rattle.dn_bundle.proofs.steps.past_few.Given as goal
 
 abbrev pub invariant-loop-left : goal.invariant-loop-left

@@ -1,7 +1,7 @@
 use Rattle.std.proofs.Common.{rules, w64, Some, None}
 use Rattle.std.specs.Int.RustNames.{FitsSigned}
 use Rattle.std.proofs.lemmas.Int.{to_z-of_z}
-use Rattle.dn_arc.specs.declared.arc.Form.TheVariants.{One}
+use Rattle.dn_arc_theory.specs.declared.arc.Form.TheVariants.{One}
 use Rattle.dn_compare.proofs.ArcPartings.{of_arcs}
 use Rattle.dn_compare.proofs.difference.pair_verdict.Goals as goal
 

@@ -1,5 +1,5 @@
 use Rattle.std.proofs.Common.{Err, ap, refl, sym, ◌&&◌}
-use Rattle.dn_arc.specs.declared.arc.Form.TheVariants.{One}
+use Rattle.dn_arc_theory.specs.declared.arc.Form.TheVariants.{One}
 use Rattle.dn_instance.specs.State.ItemFaults.{in_graph}
 use Rattle.dn_instance.proofs.ListsLaws.{lists_more, sum_passes, taken_fault, sum_fault}
 use Rattle.dn_table.proofs.NeedLaws.{needs_graph}

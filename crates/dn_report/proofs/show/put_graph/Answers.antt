@@ -1,6 +1,6 @@
 use Rattle.std.proofs.Common.{◌++◌, refl, ap}
 use Rattle.std.specs.List.{concat}
-use Rattle.dn_arc.specs.declared.arc.Form.TheVariants.{One}
+use Rattle.dn_arc_theory.specs.declared.arc.Form.TheVariants.{One}
 use Rattle.dn_sink.specs.Rows.{text_of}
 use Rattle.dn_sink.proofs.PutLaws.{put_from, put_more, put_stop, put_last, stopped}
 use Rattle.dn_report.specs.State.ListedRows.{table_rows}

@@ -1,7 +1,7 @@
 use Rattle.std.proofs.Common.{rules, refl, ◌∷◌, [], ◌∙◌, FitsSigned, w64, to_z-of_z}
 use Rattle.dn_line.specs.declared.kind.Kind.TheVariants as Kinds
 use Rattle.dn_bundle.specs.State.Listings.{least_arcs, total_arcs, curve_arcs}
-use Rattle.dn_arc.specs.declared.arc.Form.TheVariants.{One}
+use Rattle.dn_arc_theory.specs.declared.arc.Form.TheVariants.{One}
 use Rattle.dn_report.specs.Shows.{cost_words, total_words, supply_rows, terminal_rows}
 use Rattle.dn_report.specs.State.ListedRows.{length_words}
 use Rattle.dn_report.proofs.ShowLaws.{graph_text, kind_text, held_text, supplies_text, terminals_text}

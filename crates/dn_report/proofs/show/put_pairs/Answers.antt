@@ -1,4 +1,4 @@
-use Rattle.dn_arc.specs.declared.arc.Form.TheVariants.{One}
+use Rattle.dn_arc_theory.specs.declared.arc.Form.TheVariants.{One}
 use Rattle.dn_sink.proofs.PutLaws.{put_from, put_more, put_stop, stopped}
 use Rattle.dn_report.proofs.ShowLaws.{pair_next}
 use Rattle.dn_report.proofs.show.put_pairs.Goals as goal

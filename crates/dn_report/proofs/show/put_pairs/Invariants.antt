@@ -1,4 +1,4 @@
-use Rattle.dn_arc.specs.declared.arc.Form.TheVariants.{One}
+use Rattle.dn_arc_theory.specs.declared.arc.Form.TheVariants.{One}
 use Rattle.dn_sink.specs.Rows.{text_of}
 use Rattle.dn_sink.specs.Puts.{HasPut}
 use Rattle.dn_report.specs.State.ListedRows.{listed_rows}

@@ -1,6 +1,6 @@
 use Rattle.std.proofs.Common.{rules, ◌≢◌, ◌∙◌}
 use Rattle.dn_line.specs.declared.kind.Kind.TheVariants as Kinds
-use Rattle.dn_arc.specs.declared.arc.Form.TheVariants.{One, Two}
+use Rattle.dn_arc_theory.specs.declared.arc.Form.TheVariants.{One, Two}
 use Rattle.dn_instance.specs.Instances.{kind_of}
 use Rattle.dn_instance.proofs.HeldLaws.{held_kind}
 use Rattle.dn_canon.proofs.FormLaws.{canon_in}

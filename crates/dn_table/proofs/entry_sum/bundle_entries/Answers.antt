@@ -1,5 +1,5 @@
 use Rattle.std.proofs.Common.{◌≤◌, ◌^◌, ◌∙◌, arith}
-use Rattle.dn_arc.specs.declared.arc.Form.TheVariants.{One}
+use Rattle.dn_arc_theory.specs.declared.arc.Form.TheVariants.{One}
 use Rattle.std.specs.Map.{keys_of}
 use Rattle.dn_table.specs.GraphEntries.{graph_entries}
 use Rattle.dn_table.proofs.EntryLaws.{table_entries, once_apart}

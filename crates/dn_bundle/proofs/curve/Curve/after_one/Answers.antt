@@ -1,5 +1,5 @@
 use Rattle.std.proofs.Common.{◌≡◌, Some, None, ap, ◌∙◌, rules, slice_get, option_map}
-use Rattle.dn_arc.specs.State.CurveListed.{step_arc, fixed_arcs}
+use Rattle.dn_arc_theory.specs.State.CurveListed.{step_arc, fixed_arcs}
 use Rattle.dn_bundle.proofs.FormLaws.{arc_past, next_free, next_fixed, or_first, past_fixed_in, past_free_in, first_free_in}
 use Rattle.dn_bundle.proofs.FixedLaws.{is_zero, zero_is}
 use Rattle.dn_bundle.proofs.curve.Curve.after_one.Goals as goal

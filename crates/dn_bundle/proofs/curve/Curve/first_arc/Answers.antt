@@ -1,5 +1,5 @@
 use Rattle.std.proofs.Common.{Some, ap, sym, ◌∙◌, slice_get, option_map}
-use Rattle.dn_arc.specs.State.CurveListed.{step_arc, joined_head}
+use Rattle.dn_arc_theory.specs.State.CurveListed.{step_arc, joined_head}
 use Rattle.dn_bundle.proofs.FormLaws.{first_fits, first_of_one, first_of_two, or_first, first_joined}
 use Rattle.dn_bundle.proofs.curve.Curve.first_arc.Goals as goal
 

@@ -1,8 +1,8 @@
 use Rattle.std.proofs.Common.{sym, ◌∙◌, rules, w64}
 use Rattle.std.specs.Int.{w128}
 use Rattle.std.proofs.lemmas.Int.{to_z-of_z}
-use Rattle.dn_arc.proofs.SoundLaws.{none_is}
-use Rattle.dn_arc.proofs.ListedLaws.{listed_units, listed_cost}
+use Rattle.dn_arc_theory.proofs.SoundLaws.{none_is}
+use Rattle.dn_arc_theory.proofs.ListedLaws.{listed_units, listed_cost}
 use Rattle.dn_bundle.proofs.curve.Curve.forced.Goals as goal
 
 pub returns-clause-units : goal.returns-clause-units

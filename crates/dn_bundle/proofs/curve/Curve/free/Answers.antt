@@ -1,6 +1,6 @@
 use Rattle.std.proofs.Common.{sym, ap, ◌∙◌, slice_get, option_map}
 use Rattle.std.proofs.lemmas.Option.{slice_get-map}
-use Rattle.dn_arc.specs.State.CurveListed.{step_arc}
+use Rattle.dn_arc_theory.specs.State.CurveListed.{step_arc}
 use Rattle.dn_bundle.proofs.CurveLaws.{free_arcs}
 use Rattle.dn_bundle.proofs.curve.Curve.free.Goals as goal
 

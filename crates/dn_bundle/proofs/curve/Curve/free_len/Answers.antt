@@ -1,6 +1,6 @@
 use Rattle.std.proofs.Common.{sym, ap, ◌∙◌, length}
 use Rattle.std.proofs.lemmas.List.{length-map}
-use Rattle.dn_arc.specs.State.CurveListed.{step_arc}
+use Rattle.dn_arc_theory.specs.State.CurveListed.{step_arc}
 use Rattle.dn_bundle.proofs.CurveLaws.{free_arcs, costs_listed}
 use Rattle.dn_bundle.proofs.curve.Curve.free_len.Goals as goal
 

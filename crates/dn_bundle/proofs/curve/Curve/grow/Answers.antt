@@ -1,8 +1,8 @@
 use Rattle.std.proofs.Common.{rules, ◌+ℤ◌, ◌++◌, ◌∷◌, [], ap, sym, ◌∙◌, subst}
-use Rattle.dn_arc.specs.declared.arc.Form.TheVariants.{One}
-use Rattle.dn_arc.specs.Meanings.{SameCurve}
-use Rattle.dn_arc.specs.State.CurveListed.{listed}
-use Rattle.dn_arc.specs.State.Curves.{CurveNumbers}
+use Rattle.dn_arc_theory.specs.declared.arc.Form.TheVariants.{One}
+use Rattle.dn_arc_theory.specs.Meanings.{SameCurve}
+use Rattle.dn_arc_theory.specs.State.CurveListed.{listed}
+use Rattle.dn_arc_theory.specs.State.Curves.{CurveNumbers}
 use Rattle.dn_bundle.specs.State.Shapes.{shape_numbers}
 use Rattle.dn_bundle.proofs.GrowLaws.{taken_same, taken_sound, same_curve}
 use Rattle.dn_bundle.proofs.curve.Curve.grow.Goals as goal

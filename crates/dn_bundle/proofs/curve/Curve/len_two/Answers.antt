@@ -1,6 +1,6 @@
 use Rattle.std.proofs.Common.{ap, ◌∙◌, rules, w64}
 use Rattle.std.proofs.lemmas.Int.{to_z-of_z}
-use Rattle.dn_arc.specs.State.Steps.{has_step}
+use Rattle.dn_arc_theory.specs.State.Steps.{has_step}
 use Rattle.dn_bundle.proofs.StepLaws.{next_is}
 use Rattle.dn_bundle.proofs.LenLaws.{one_unless, len_with_one, len_with_two}
 use Rattle.dn_bundle.proofs.curve.Curve.len_two.Goals as goal

@@ -1,6 +1,6 @@
 use Rattle.std.proofs.Common.{◌≡◌, Some, None, ap, sym, ◌∙◌, option_map}
-use Rattle.dn_arc.specs.State.Steps.{step_past}
-use Rattle.dn_arc.specs.State.CurveListed.{step_arc, fixed_arcs, joined_head}
+use Rattle.dn_arc_theory.specs.State.Steps.{step_past}
+use Rattle.dn_arc_theory.specs.State.CurveListed.{step_arc, fixed_arcs, joined_head}
 use Rattle.dn_bundle.proofs.FormLaws.{arc_past, past_fits, past_of_two, first_joined}
 use Rattle.dn_bundle.proofs.curve.Curve.past_two.Goals as goal
 

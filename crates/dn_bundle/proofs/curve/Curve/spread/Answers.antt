@@ -1,7 +1,7 @@
 use Rattle.std.proofs.Common.{rules, pos, ◌≤ℤ◌, w64}
 use Rattle.std.specs.Int.{w128}
 use Rattle.std.proofs.lemmas.Int.{to_z-of_z}
-use Rattle.dn_arc.specs.State.Means.{IsMean}
+use Rattle.dn_arc_theory.specs.State.Means.{IsMean}
 use Rattle.dn_bundle.proofs.FixedLaws.{not_zero, none_fixed, one_fixed, two_fixed, less_fits, each_below}
 use Rattle.dn_bundle.proofs.curve.Curve.spread.Goals as goal
 

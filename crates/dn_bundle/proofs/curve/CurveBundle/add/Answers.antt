@@ -1,5 +1,5 @@
 use Rattle.std.proofs.Common.{refl, rules}
-use Rattle.dn_arc.specs.State.CurveListed.{IsSound}
+use Rattle.dn_arc_theory.specs.State.CurveListed.{IsSound}
 use Rattle.dn_bundle.proofs.GrowLaws.{too_much, not_too_much, two_are}
 use Rattle.dn_bundle.proofs.NewLaws.{needs_more}
 use Rattle.dn_bundle.proofs.curve.CurveBundle.add.Goals as goal

@@ -1,5 +1,5 @@
 use Rattle.std.proofs.Common.{◌∙◌}
-use Rattle.dn_arc.specs.declared.arc.Form.TheVariants.{Two}
+use Rattle.dn_arc_theory.specs.declared.arc.Form.TheVariants.{Two}
 use Rattle.dn_bundle.specs.State.Listings.{curve_arcs}
 use Rattle.dn_bundle.proofs.FormLaws.{found_in, next_two}
 use Rattle.dn_bundle.proofs.curve.CurveBundle.canon_after.Goals as goal

@@ -1,5 +1,5 @@
 use Rattle.std.proofs.Common.{sym, ◌∙◌, ◌+◌, arith}
-use Rattle.dn_arc.specs.State.CurveListed.{listed}
+use Rattle.dn_arc_theory.specs.State.CurveListed.{listed}
 use Rattle.dn_bundle.proofs.FormLaws.{none_from}
 use Rattle.dn_bundle.proofs.curve.CurveBundle.canon_arc.Goals as goal
 

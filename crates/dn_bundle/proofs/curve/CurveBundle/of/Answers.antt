@@ -1,7 +1,7 @@
 use Rattle.std.proofs.Common.{[], ◌∷◌, ap, ◌∙◌, sym, subst, rules, of_z, w64, FitsSigned}
-use Rattle.dn_arc.specs.declared.arc.Form.TheVariants.{One}
-use Rattle.dn_arc.specs.State.CurveListed.{listed}
-use Rattle.dn_arc.proofs.CostKindLaws.{cost_kind}
+use Rattle.dn_arc_theory.specs.declared.arc.Form.TheVariants.{One}
+use Rattle.dn_arc_theory.specs.State.CurveListed.{listed}
+use Rattle.dn_arc_theory.proofs.CostKindLaws.{cost_kind}
 use Rattle.dn_bundle.proofs.CurveLaws.{nothing_is}
 use Rattle.dn_bundle.proofs.curve.CurveBundle.of.Goals as goal
 

@@ -1,5 +1,5 @@
 use Rattle.std.proofs.Common.{rules, ap, sym, ◌∙◌, option_map}
-use Rattle.dn_arc.specs.State.CurveListed.{step_arc, joined_head}
+use Rattle.dn_arc_theory.specs.State.CurveListed.{step_arc, joined_head}
 use Rattle.dn_bundle.proofs.FormLaws.{free_head, both_fit, both_head, fixed_head}
 use Rattle.dn_bundle.proofs.curve.canon_arcs.join.Goals as goal
 

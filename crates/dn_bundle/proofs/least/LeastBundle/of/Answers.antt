@@ -1,6 +1,6 @@
 use Rattle.std.proofs.Common.{[], ◌∷◌, rules, to_z, of_z, w64}
 use Rattle.std.proofs.lemmas.Int.{to_z-of_z}
-use Rattle.dn_arc.proofs.LengthsLaws.{length_meaning, first_length}
+use Rattle.dn_arc_theory.proofs.LengthsLaws.{length_meaning, first_length}
 use Rattle.dn_bundle.proofs.least.LeastBundle.of.Goals as goal
 
 pub returns-clause-ok : goal.returns-clause-ok

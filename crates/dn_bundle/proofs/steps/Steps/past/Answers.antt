@@ -1,5 +1,5 @@
 use Rattle.std.proofs.Common.{sym, ap, ◌∙◌}
-use Rattle.dn_arc.specs.State.Steps.{step_past}
+use Rattle.dn_arc_theory.specs.State.Steps.{step_past}
 use Rattle.dn_bundle.proofs.SpotLaws.{past_both, past_rest}
 use Rattle.dn_bundle.proofs.steps.Steps.past.Goals as goal
 

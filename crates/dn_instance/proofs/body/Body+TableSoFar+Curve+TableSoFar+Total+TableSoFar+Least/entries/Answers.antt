@@ -1,8 +1,8 @@
 use Rattle.std.proofs.Common.{length, refl, arith, ap, ◌∙◌}
 use Rattle.dn_line.specs.declared.kind.Kind.TheVariants as Kinds
-use Rattle.dn_arc.specs.Entries.{cap_entries, cost_entries, length_entries}
-use Rattle.dn_arc.specs.Kinds.{capacities, costs, lengths}
-use Rattle.dn_arc.specs.declared.arc.Form.TheVariants.{One}
+use Rattle.dn_arc_theory.specs.Entries.{cap_entries, cost_entries, length_entries}
+use Rattle.dn_arc_theory.specs.Kinds.{capacities, costs, lengths}
+use Rattle.dn_arc_theory.specs.declared.arc.Form.TheVariants.{One}
 use Rattle.dn_bundle.specs.State.Listings.{curve_arcs, least_arcs, total_arcs}
 use Rattle.dn_instance.specs.Items.{cap_arc_in, cost_arc_in, length_arc_in}
 use Rattle.dn_instance.proofs.BodyLaws.{table_counted}

@@ -1,29 +1,31 @@
-use Rattle.std.proofs.Common.{◌≡◌, append-nil, arith, refl, sym, ◌∙◌}
-use Rattle.dn_instance.specs.Readers.{ended}
-use Rattle.dn_instance.specs.declared.reader.Reader.{Reader}
-use Rattle.dn_instance.proofs.ReaderLaws.{front_refused, with_rows}
-use Rattle.dn_instance.proofs.PieceSteps.{none_open}
-use Rattle.dn_instance.proofs.reader.Reader.advance.Goals.{then-not-pending+in_default+else-front-gt0, else-not-pending}
+use Rattle.std.proofs.Common.{◌≡◌, ◌-◌, append-nil, length, arith, refl, sym, ◌∙◌}
 use Rattle.dn_line.specs.State.LineStates.{used_of}
+use Rattle.dn_instance.specs.Readers.{ended}
+use Rattle.dn_instance.proofs.PieceSteps.{none_open}
+use Rattle.dn_instance.proofs.ReaderLaws.{block_refused, with_lines}
+use Rattle.dn_instance.proofs.reader.Reader.advance.Goals.{else-not-pending, then-not-pending+in-Some+in_default-take_block+else-left-piece, then-not-pending+in_default}
 use Rattle.dn_instance.proofs.reader.Reader.advance.Goals as goal
 
-pub returns-in-Some-clause-advances : goal.returns-in-Some-clause-advances
-returns-in-Some-clause-advances c t h =
+pub returns-in-Err-clause-advances : goal.returns-in-Err-clause-advances
+returns-in-Err-clause-advances c t h =
     let none =
     none_open t h.line.line h.line.open_is (sym c.if-not-pending.true ∙ c.pending.ensures h.line.line h.line.stands) in
-    front_refused c.refuse.new.self t c.args.piece.now c.take_rows-front.result c.in-Some.fault c.refuse.result none
-    c.in-Some.is (rw c.refuse.ensures.text (c.take_rows-front.ensures.taken (ended t) h.read)) c.refuse.ensures.refusal
-    (λ ls at. c.refuse.ensures.said ls (rw c.refuse.ensures.text at at))
+    let block = c.in-Some.ensures.left (ended t) h.read in
+    block_refused c.take_block.new.self t c.args.piece.now block.0 c.in-Err.refusal none
+    (c.in-Err.ensures.taken (ended t) c.args.piece.now block.0
+    (rw (c.read_block.ensures.text, c.rows-rows.ensures.rows) block.1))
 
-pub returns-then-front-gt0-clause-advances : goal.returns-then-front-gt0-clause-advances
-returns-then-front-gt0-clause-advances c t h = (
-  c.take_rows-front.result.used,
-  refl,
-  with_rows (record c.args.self.now { text = c.take_rows-front.new.self }) t c.args.piece.now
-      c.take_rows-front.result h.line
-      (none_open t h.line.line h.line.open_is (sym c.if-not-pending.true ∙ c.pending.ensures h.line.line h.line.stands))
-      (c.take_rows-front.ensures.taken (ended t) h.read),
-)
+pub returns-then-left-piece-clause-advances : goal.returns-then-left-piece-clause-advances
+returns-then-left-piece-clause-advances c t h =
+    let none =
+    none_open t h.line.line h.line.open_is (sym c.if-not-pending.true ∙ c.pending.ensures h.line.line h.line.stands) in
+    let block = c.in-Some.ensures.left (ended t) h.read in (
+      length c.args.piece.now - length block.0,
+      rw (c.left_behind-left.ensures, c.rows-rows.ensures.rows, block.2) refl,
+      with_lines c.take_block.new.self t c.args.piece.now block.0 (rw c.take_block.ensures.line h.line) none
+          (c.in_default-take_block.ensures.taken (ended t) c.args.piece.now block.0
+          (rw (c.read_block.ensures.text, c.rows-rows.ensures.rows) block.1)),
+    )
 
 pub returns-clause-advances : goal.returns-clause-advances
 returns-clause-advances c t h =
@@ -32,14 +34,18 @@ returns-clause-advances c t h =
       c.step.ensures.used,
       c.step.ensures.advances t
           (elim c.if-not-pending.branch [
-            | then-not-pending+in_default+else-front-gt0 w ↦
-                let after : Reader = record c.args.self.now { text = w.take_rows-front.new.self } in
-                let front = w.take_rows-front.result in
-                let none : front.used ≡ 0 = omega (arith, w.if-front-gt0.false) in
-                rw w.self-is (rw (none, append-nil t) at (with_rows after t p front h.line
-                (none_open t h.line.line h.line.open_is
-                (sym w.if-not-pending.true ∙ c.pending.ensures h.line.line h.line.stands))
-                (w.take_rows-front.ensures.taken (ended t) h.read)))
+            | then-not-pending+in-Some+in_default-take_block+else-left-piece w ↦
+                let none =
+                none_open t h.line.line h.line.open_is
+                (sym w.if-not-pending.true ∙ c.pending.ensures h.line.line h.line.stands) in
+                let block = w.in-Some.ensures.left (ended t) h.read in
+                let left : w.left_behind-left.result ≡ length block.0 =
+                w.left_behind-left.ensures ∙ rw w.rows-rows.ensures.rows block.2 in
+                let zero : length p - length block.0 ≡ 0 = omega (arith, w.if-left-piece.false, left) in
+                rw w.self-is (rw (zero, append-nil t) at (with_lines w.take_block.new.self t p block.0
+                (rw w.take_block.ensures.line h.line) none (w.in_default-take_block.ensures.taken (ended t) p block.0
+                (rw (w.read_block.ensures.text, w.rows-rows.ensures.rows) block.1))))
+            | then-not-pending+in_default w ↦ rw (w.self-is, w.read_block.ensures.text) h
             | else-not-pending w ↦ rw w.self-is h
           ]),
     )

@@ -1,4 +1,4 @@
-use Rattle.dn_arc.proofs.OrdersLaws.{any_order}
+use Rattle.dn_arc_theory.proofs.OrdersLaws.{any_order}
 use Rattle.dn_laws.proofs.bundles.laws.any_order_of.Goals as goal
 
 pub returns : goal.returns

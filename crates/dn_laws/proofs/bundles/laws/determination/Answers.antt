@@ -1,4 +1,4 @@
-use Rattle.dn_arc.proofs.FormTwoLaws.{determination_of_forms}
+use Rattle.dn_arc_theory.proofs.FormTwoLaws.{determination_of_forms}
 use Rattle.dn_laws.proofs.bundles.laws.determination.Goals as goal
 
 pub returns : goal.returns

@@ -1,4 +1,4 @@
-use Rattle.dn_arc.proofs.FormTwoLaws.{exchange_of_forms}
+use Rattle.dn_arc_theory.proofs.FormTwoLaws.{exchange_of_forms}
 use Rattle.dn_laws.proofs.bundles.laws.exchange.Goals as goal
 
 pub returns : goal.returns

@@ -1,5 +1,5 @@
-use Rattle.dn_arc.proofs.LengthsLaws.{length_meaning}
-use Rattle.dn_arc.proofs.CurvesLaws.{curve_meaning}
+use Rattle.dn_arc_theory.proofs.LengthsLaws.{length_meaning}
+use Rattle.dn_arc_theory.proofs.CurvesLaws.{curve_meaning}
 use Rattle.dn_laws.proofs.bundles.laws.meanings.Goals as goal
 
 pub returns-clause-lengths : goal.returns-clause-lengths

@@ -1,5 +1,5 @@
 use Rattle.std.proofs.Common.{sym, ap, ◌∙◌, length}
-use Rattle.dn_arc.proofs.CanonsLaws.{count_costs, same_canon}
+use Rattle.dn_arc_theory.proofs.CanonsLaws.{count_costs, same_canon}
 use Rattle.dn_laws.proofs.bundles.laws.parts_of_meaning.Goals as goal
 
 pub returns : goal.returns

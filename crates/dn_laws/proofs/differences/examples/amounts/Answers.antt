@@ -1,12 +1,12 @@
 use Rattle.std.proofs.Common.{pos, ℤ, [], ◌∷◌, refl, rules}
-use Rattle.dn_arc.specs.declared.arc.CostArc.{CostArc}
-use Rattle.dn_arc.specs.declared.difference.How.TheVariants.{Costs}
-use Rattle.dn_arc.specs.Meanings.{SameCurve}
-use Rattle.dn_arc.specs.Pairs.{bundle, pair_cmp}
-use Rattle.dn_arc.proofs.CostKindLaws.{cost_differs}
-use Rattle.dn_arc.proofs.CurvesLaws.{curve_meaning}
-use Rattle.dn_arc.proofs.FillMeaningsLaws.{same_by_parts}
-use Rattle.dn_arc.proofs.PairLaws.{pair_total}
+use Rattle.dn_arc_theory.specs.declared.arc.CostArc.{CostArc}
+use Rattle.dn_arc_theory.specs.declared.difference.How.TheVariants.{Costs}
+use Rattle.dn_arc_theory.specs.Meanings.{SameCurve}
+use Rattle.dn_arc_theory.specs.Pairs.{bundle, pair_cmp}
+use Rattle.dn_arc_theory.proofs.CostKindLaws.{cost_differs}
+use Rattle.dn_arc_theory.proofs.CurvesLaws.{curve_meaning}
+use Rattle.dn_arc_theory.proofs.FillMeaningsLaws.{same_by_parts}
+use Rattle.dn_arc_theory.proofs.PairLaws.{pair_total}
 use Rattle.dn_bundle.proofs.PartLaws.{cost_gap, right_gap, step_gap}
 use Rattle.dn_compare.proofs.ArcPartings.{exact_pair}
 use Rattle.dn_compare.proofs.VerdictLaws.{same_first}

@@ -1,10 +1,10 @@
 use Rattle.std.proofs.Common.{inl, inr, ℤ, pos, [], ◌∷◌, Some, refl, rules}
-use Rattle.dn_arc.specs.declared.arc.LengthArc.{LengthArc}
-use Rattle.dn_arc.specs.Lengths.{LeastLength}
-use Rattle.dn_arc.specs.Differences.{TotalsDiffer}
-use Rattle.dn_arc.specs.Kinds as Arcs
-use Rattle.dn_arc.proofs.LengthsLaws.{length_meaning, lone}
-use Rattle.dn_arc.proofs.TotalKindLaws.{total_kind}
+use Rattle.dn_arc_theory.specs.declared.arc.LengthArc.{LengthArc}
+use Rattle.dn_arc_theory.specs.Lengths.{LeastLength}
+use Rattle.dn_arc_theory.specs.Differences.{TotalsDiffer}
+use Rattle.dn_arc_theory.specs.Kinds as Arcs
+use Rattle.dn_arc_theory.proofs.LengthsLaws.{length_meaning, lone}
+use Rattle.dn_arc_theory.proofs.TotalKindLaws.{total_kind}
 use Rattle.dn_compare.proofs.HeldVerdicts.{max_pairs}
 use Rattle.dn_laws.proofs.bundles.SomeDifference.{same_by_length}
 use Rattle.dn_laws.proofs.differences.ExampleLaws.{arcs_part, lengths_part}

@@ -1,7 +1,7 @@
-use Rattle.dn_arc.specs.Kinds.{lengths, capacities, costs}
-use Rattle.dn_arc.proofs.LengthsLaws.{length_meaning}
-use Rattle.dn_arc.proofs.TotalsLaws.{total_meaning}
-use Rattle.dn_arc.proofs.CurvesLaws.{curve_meaning}
+use Rattle.dn_arc_theory.specs.Kinds.{lengths, capacities, costs}
+use Rattle.dn_arc_theory.proofs.LengthsLaws.{length_meaning}
+use Rattle.dn_arc_theory.proofs.TotalsLaws.{total_meaning}
+use Rattle.dn_arc_theory.proofs.CurvesLaws.{curve_meaning}
 use Rattle.dn_instance.proofs.SameLaws.{graph_order}
 use Rattle.dn_laws.proofs.instances.laws.any_order.Goals as goal
 

@@ -1,14 +1,14 @@
 use Rattle.std.proofs.Common.{◌≡◌, inl, inr, ℤ, pos, List, [], ◌∷◌, codes, Some, refl, rules}
 use Rattle.std.specs.Fmt.{digits, signed_decimal}
 use Rattle.std.specs.List.Sorted.{IsStrictlySortedBy}
-use Rattle.dn_arc.specs.declared.arc.CapArc.{CapArc}
-use Rattle.dn_arc.specs.declared.arc.CostArc.{CostArc}
-use Rattle.dn_arc.specs.declared.arc.LengthArc.{LengthArc}
-use Rattle.dn_arc.specs.Kinds.{lengths, capacities, costs}
-use Rattle.dn_arc.specs.Pairs.{bundle}
-use Rattle.dn_arc.proofs.CostKindLaws.{cost_kind}
-use Rattle.dn_arc.proofs.LengthKindLaws.{length_kind}
-use Rattle.dn_arc.proofs.TotalKindLaws.{total_kind}
+use Rattle.dn_arc_theory.specs.declared.arc.CapArc.{CapArc}
+use Rattle.dn_arc_theory.specs.declared.arc.CostArc.{CostArc}
+use Rattle.dn_arc_theory.specs.declared.arc.LengthArc.{LengthArc}
+use Rattle.dn_arc_theory.specs.Kinds.{lengths, capacities, costs}
+use Rattle.dn_arc_theory.specs.Pairs.{bundle}
+use Rattle.dn_arc_theory.proofs.CostKindLaws.{cost_kind}
+use Rattle.dn_arc_theory.proofs.LengthKindLaws.{length_kind}
+use Rattle.dn_arc_theory.proofs.TotalKindLaws.{total_kind}
 use Rattle.dn_laws.proofs.reports.ExampleLaws.{IsListed, ListedAt, pair_rows, some_words}
 use Rattle.dn_laws.specs.State.DifferenceExamples.{some_costs, some_lengths, worked_capacities}
 use Rattle.dn_sink.specs.Rows.{Cells}

@@ -1,7 +1,7 @@
 use Rattle.std.proofs.Common.{◌≤◌, ◌^◌, ℕ, List, [], Option, Some, codes, inl, inr, refl, ◌∙◌, arith}
 use Rattle.std.specs.Fmt.{digits}
-use Rattle.dn_arc.specs.declared.arc.Form.TheVariants.{One}
-use Rattle.dn_arc.proofs.CurvesLaws.{curve_meaning}
+use Rattle.dn_arc_theory.specs.declared.arc.Form.TheVariants.{One}
+use Rattle.dn_arc_theory.proofs.CurvesLaws.{curve_meaning}
 use Rattle.dn_instance.specs.Instances.{Instance}
 use Rattle.dn_instance.specs.Texts.{Reads}
 use Rattle.dn_instance.proofs.FirstFaults.{clean_is, not_both}

@@ -1,6 +1,6 @@
 use Rattle.std.proofs.Common.{rules, arith}
 use Rattle.std.proofs.lemmas.Grind.{common_steps}
-use Rattle.dn_arc.specs.declared.arc.Form.TheVariants.{One, Two}
+use Rattle.dn_arc_theory.specs.declared.arc.Form.TheVariants.{One, Two}
 use Rattle.dn_laws.specs.State.BundleExamples.{worked_one, canon_in_two_alone}
 use Rattle.dn_laws.proofs.bundles.ExampleLaws.{worked_form_one}
 use Rattle.dn_laws.proofs.texts.ExampleLaws.{canonical_at, canonical_here}

@@ -1,8 +1,8 @@
 use Rattle.std.proofs.Common.{rules, refl}
 use Rattle.std.specs.Fmt.{digits}
-use Rattle.dn_arc.specs.declared.arc.Form.TheVariants.{One, Two}
+use Rattle.dn_arc_theory.specs.declared.arc.Form.TheVariants.{One, Two}
 use Rattle.dn_laws.specs.State.BundleExamples.{worked, worked_one, worked_two}
-use Rattle.dn_arc.proofs.CurvesLaws.{curve_meaning}
+use Rattle.dn_arc_theory.proofs.CurvesLaws.{curve_meaning}
 use Rattle.dn_laws.proofs.bundles.ExampleLaws.{worked_form_one, worked_same_one, worked_same_two}
 use Rattle.dn_laws.specs.State.TextExamples.{on_one_pair}
 use Rattle.dn_laws.proofs.texts.ExampleLaws.{canonical_at, same_at, worked_one_valid, worked_two_valid}

@@ -1,7 +1,7 @@
 use Rattle.std.proofs.Common.{None, refl}
 use Rattle.clap.proofs.OnLiterals.{clap_on_literals}
 use Rattle.dn_command.specs.Commands.{Canon, Check, Compare, Show}
-use Rattle.dn_arc.specs.declared.arc.Form.TheVariants.{One}
+use Rattle.dn_arc_theory.specs.declared.arc.Form.TheVariants.{One}
 use Rattle.dn_laws.proofs.words.ReadLaws.{answered}
 use Rattle.dn_laws.proofs.words.laws.any_names.Goals as goal
 

@@ -1,7 +1,7 @@
 use Rattle.std.proofs.Common.{[], ◌∷◌, codes, refl}
 use Rattle.clap.proofs.OnLiterals.{clap_on_literals}
 use Rattle.dn_command.specs.Commands.{Canon}
-use Rattle.dn_arc.specs.declared.arc.Form.TheVariants.{One, Two}
+use Rattle.dn_arc_theory.specs.declared.arc.Form.TheVariants.{One, Two}
 use Rattle.dn_laws.proofs.words.ReadLaws.{answered, form_refs}
 use Rattle.dn_laws.proofs.words.LineLaws.{line_reads, name_then, no_more, word_then}
 use Rattle.dn_laws.proofs.words.laws.forms.Goals as goal

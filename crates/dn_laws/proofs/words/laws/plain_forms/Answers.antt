@@ -1,7 +1,7 @@
 use Rattle.std.proofs.Common.{[], ◌∷◌, None, codes, refl}
 use Rattle.clap.proofs.OnLiterals.{clap_on_literals}
 use Rattle.dn_command.specs.Commands.{Canon, Check, Compare, Show}
-use Rattle.dn_arc.specs.declared.arc.Form.TheVariants.{One}
+use Rattle.dn_arc_theory.specs.declared.arc.Form.TheVariants.{One}
 use Rattle.dn_laws.proofs.words.ReadLaws.{answered, form_refs}
 use Rattle.dn_laws.proofs.words.LineLaws.{line_reads, name_then, no_more}
 use Rattle.dn_laws.proofs.words.laws.plain_forms.Goals as goal

@@ -1,7 +1,7 @@
 use Rattle.std.proofs.Common.{◌∙◌}
 use Rattle.std.specs.Map.{keys_of}
 use Rattle.std.proofs.lemmas.Map.Keys.{IsDistinct-from_sorted}
-use Rattle.dn_arc.specs.Pairs.{pair_cmp}
+use Rattle.dn_arc_theory.specs.Pairs.{pair_cmp}
 use Rattle.dn_table.proofs.table.Table.entries.Goals as goal
 
 pub returns : goal.returns

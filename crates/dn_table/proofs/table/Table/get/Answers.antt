@@ -2,7 +2,7 @@ use Rattle.std.proofs.Common.{◌≡◌, ℤ, sym, ◌∙◌, ap, false}
 use Rattle.std.specs.List.{list_any}
 use Rattle.std.specs.Map.{keys_of, lookup}
 use Rattle.std.proofs.lemmas.Map.Keys.{IsDistinct-from_sorted}
-use Rattle.dn_arc.specs.Pairs.{pair_cmp, same_pair}
+use Rattle.dn_arc_theory.specs.Pairs.{pair_cmp, same_pair}
 use Rattle.pair_index.specs.State.Positions.{key_at}
 use Rattle.dn_table.proofs.PairLaws.{key_is}
 use Rattle.dn_table.proofs.GrownLaws.{lookup_none, found_at}

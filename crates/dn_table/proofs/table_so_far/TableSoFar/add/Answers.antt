@@ -1,9 +1,9 @@
 use Rattle.std.proofs.Common.{ℤ, ◌-◌, ◌^◌, pos, [], ◌∷◌, ◌++◌, ap, ◌∙◌}
 use Rattle.std.specs.Map.{keys_of, lookup}
 use Rattle.std.proofs.lemmas.List.{map-append}
-use Rattle.dn_arc.specs.Pairs.{same_pair}
-use Rattle.dn_arc.specs.State.Bundles.{meant}
-use Rattle.dn_arc.proofs.PairLaws.{pair_self}
+use Rattle.dn_arc_theory.specs.Pairs.{same_pair}
+use Rattle.dn_arc_theory.specs.State.Bundles.{meant}
+use Rattle.dn_arc_theory.proofs.PairLaws.{pair_self}
 use Rattle.dn_table.proofs.PairLaws.{other_pair}
 use Rattle.dn_table.proofs.GrownLaws.{none_as, push_found, push_other}
 use Rattle.dn_table.proofs.TableLaws.{sum_alone, grows_fresh, grows_none}

@@ -1,8 +1,8 @@
 use Rattle.std.proofs.Common.{subst, ◌∙◌, ap, set}
 use Rattle.std.specs.Map.{lookup}
 use Rattle.std.proofs.lemmas.Result.{on_ok_weaker, on_err_weaker}
-use Rattle.dn_arc.specs.declared.arc.Form.TheVariants.{One}
-use Rattle.dn_arc.specs.Pairs.{same_pair}
+use Rattle.dn_arc_theory.specs.declared.arc.Form.TheVariants.{One}
+use Rattle.dn_arc_theory.specs.Pairs.{same_pair}
 use Rattle.dn_table.specs.State.Tables.{Grows}
 use Rattle.dn_table.proofs.TableLaws.{listed_there, sum_listed}
 use Rattle.dn_table.proofs.NeedLaws.{needs_listed}

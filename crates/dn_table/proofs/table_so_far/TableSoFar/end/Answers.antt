@@ -2,7 +2,7 @@ use Rattle.std.proofs.Common.{ap, ◌∙◌}
 use Rattle.std.specs.Map.{lookup}
 use Rattle.std.proofs.lemmas.List.{with_items_is}
 use Rattle.pair_index.proofs.SortLaws.{lookups_still}
-use Rattle.dn_arc.specs.Pairs.{same_pair}
+use Rattle.dn_arc_theory.specs.Pairs.{same_pair}
 use Rattle.dn_table.proofs.table_so_far.TableSoFar.end.Goals as goal
 
 pub returns-clause-kept : goal.returns-clause-kept

@@ -2,8 +2,8 @@ use Rattle.std.proofs.Common.{ℤ, ◌∙◌, ap, ◌∷◌, []}
 use Rattle.std.proofs.lemmas.List.{map-append}
 use Rattle.std.specs.List.{list_any}
 use Rattle.std.specs.Map.{keys_of, lookup}
-use Rattle.dn_arc.specs.Pairs.{same_pair}
-use Rattle.dn_arc.proofs.PairLaws.{pair_self}
+use Rattle.dn_arc_theory.specs.Pairs.{same_pair}
+use Rattle.dn_arc_theory.proofs.PairLaws.{pair_self}
 use Rattle.pair_index.proofs.SortLaws.{lookups_still}
 use Rattle.dn_table.proofs.PairLaws.{other_pair}
 use Rattle.dn_table.proofs.GrownLaws.{push_found, push_other, any_none}

@@ -13,10 +13,9 @@ returns-in_default g c =
     let es = c.args.entries.now in
     record {
       sorted =
-          closed runs.falls runs.begin es c.sort_by_pair.new.entries
-          (group_unless_sorted runs.falls (keys_of es) runs.begin runs.group c.in_default.not-Sorted c.requires.shows)
+          closed runs.begin es c.sort_by_pair.new.entries
+          (group_unless_sorted (keys_of es) runs.begin runs.group c.in_default.not-Sorted c.requires.shows)
           c.sort_by_pair.ensures.moved c.sort_by_pair.ensures.sorted;
-      falls = refl;
       group = refl;
       moved =
           IsPermutation-put_mid runs.begin (length es - runs.begin) es c.sort_by_pair.new.entries

@@ -13,11 +13,11 @@ pub returns-in_err-position-in-Linked : goal.returns-in_err-position-in-Linked
 returns-in_err-position-in-Linked g c =
     let runs = c.args.self.now in
     rw c.from_residual.ensures
-    (found_linked runs.begin c.args.entries.now runs.falls c.args.pair.now None c.requires.group
+    (found_linked runs.begin c.args.entries.now c.args.pair.now None c.requires.group
     c.in_err-position-in-Linked.ensures)
 
 pub returns-in_ok-position-in-Linked : goal.returns-in_ok-position-in-Linked
 returns-in_ok-position-in-Linked g c =
     let runs = c.args.self.now in
-    found_linked runs.begin c.args.entries.now runs.falls c.args.pair.now (Some c.in_ok-position-in-Linked.position)
+    found_linked runs.begin c.args.entries.now c.args.pair.now (Some c.in_ok-position-in-Linked.position)
     c.requires.group c.in_ok-position-in-Linked.ensures

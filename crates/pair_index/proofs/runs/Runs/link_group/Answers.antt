@@ -9,8 +9,8 @@ returns-then-branch-clause-taken g c is =
     let es = c.args.entries.now in
     let p = c.args.pair.now in
     let group = c.requires.group in (
-      group_more runs.falls (keys_of es) runs.begin group p
-          (sym c.requires.tail ∙ first_tail runs.falls (keys_of es) runs.begin group p),
-      linked_more runs.begin es runs.falls p c.take.new.self group
+      group_more (keys_of es) runs.begin group p
+          (sym c.requires.tail ∙ first_tail (keys_of es) runs.begin group p),
+      linked_more runs.begin es p c.take.new.self group
           (c.in_ok-take-in-Some.ensures.taken (ap (λ b. Ok b) c.if-branch.true)),
     )

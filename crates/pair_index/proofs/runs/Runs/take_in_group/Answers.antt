@@ -13,8 +13,8 @@ returns-then-entries-self-lt-FEW-clause-taken g c is =
     let group = rw c.in-Few.is at c.requires.shows in
     let tail : p.0 ≡ group.tail =
     sym c.requires.tail ∙ ap (λ n. (key_at keys (n - 1)).0) (sym (length-keys_of c.args.entries.now))
-    ∙ end_tail runs.falls keys runs.begin group p in
-    rw c.in-Few.is (group_more runs.falls keys runs.begin group p tail)
+    ∙ end_tail keys runs.begin group p in
+    rw c.in-Few.is (group_more keys runs.begin group p tail)
 
 pub take-requires : goal.take-requires
 take-requires g c =
@@ -30,9 +30,9 @@ returns-in-Linked-clause-taken g c is =
     let group = (rw c.in-Linked.is at c.requires.shows).0 in
     let tail : p.0 ≡ group.tail =
     sym c.requires.tail ∙ ap (λ n. (key_at keys (n - 1)).0) (sym (length-keys_of es))
-    ∙ end_tail runs.falls keys runs.begin group p in (
-      group_more runs.falls keys runs.begin group p tail,
-      linked_more runs.begin es runs.falls p c.take.new.self group (c.take.ensures.taken is),
+    ∙ end_tail keys runs.begin group p in (
+      group_more keys runs.begin group p tail,
+      linked_more runs.begin es p c.take.new.self group (c.take.ensures.taken is),
     )
 
 pub returns-in-Linked-clause-not : goal.returns-in-Linked-clause-not
@@ -56,7 +56,7 @@ returns-else-is_past-clause-taken g c is =
     let within : begin ≤ length keys = rw all c.begin_of-self.ensures.within in
     let tail : (key_at keys (length keys - 1)).0 ≡ p.0 = ap (λ n. (key_at keys (n - 1)).0) all ∙ c.requires.tail in
     let group =
-    opened runs.falls keys begin p.0 up some within
+    opened keys begin p.0 up some within
     (λ i from lt. c.begin_of-self.ensures.from i from (rw all at lt))
     c.begin_of-self.ensures.before tail in
-    group_more runs.falls keys begin group p (sym tail ∙ end_tail runs.falls keys begin group p)
+    group_more keys begin group p (sym tail ∙ end_tail keys begin group p)

@@ -1,7 +1,7 @@
 use Rattle.std.proofs.Common.{◌≡◌, ℤ, pos, ◌<ℤ◌, false, ap, ◌∙◌, subst, rules, w64}
 use Rattle.std.specs.Int.{w128}
 use Rattle.std.proofs.lemmas.Int.{to_z-of_z}
-use Rattle.dn_arc.specs.State.Steps.{add_step, has_step}
+use Rattle.dn_arc_theory.specs.State.Steps.{add_step, has_step}
 use Rattle.dn_bundle.specs.State.Shapes.{free}
 use Rattle.dn_bundle.proofs.StepLaws.{on_err}
 use Rattle.dn_bundle.proofs.GrowLaws.{cost_fits, units_fit, step_is, units_are}

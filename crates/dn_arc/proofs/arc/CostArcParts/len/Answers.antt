@@ -1,5 +1,0 @@
-use Rattle.std.proofs.Common.{rules}
-use Rattle.dn_arc.proofs.arc.CostArcParts.len.Goals as goal
-
-pub returns : goal.returns
-returns c = search rules

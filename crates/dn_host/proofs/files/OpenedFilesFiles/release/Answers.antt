@@ -1,5 +1,0 @@
-use Rattle.std.proofs.Common.{rules}
-use Rattle.dn_host.proofs.files.OpenedFilesFiles.release.Goals as goal
-
-pub returns : goal.returns
-returns g c = search rules

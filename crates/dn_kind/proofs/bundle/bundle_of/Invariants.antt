@@ -1,8 +1,0 @@
-use Rattle.std.proofs.Common.{◌-◌, ◌^◌, pos, ◌≤ℤ◌, take}
-use Rattle.dn_arc.specs.State.Bundles.{listed_of, meant}
-use Rattle.dn_kind.proofs.bundle.bundle_of.Given as goal
-
-abbrev pub invariant-loop-arc : goal.invariant-loop-arc
-invariant-loop-arc g l =
-    g.B.Bundle.bundle.kind.Same (listed_of (meant g.B.Bundle.bundle) l.bundle) (take l.arc-index l.arcs)
-    × (g.B.Bundle.bundle.kind.capacity (take l.arc-index l.arcs) ≤ℤ pos (2 ^ 63 - 1))
