@@ -90,7 +90,9 @@ def rules() -> None:
     at, _ = kit.find()
     every = rows()
     for row in every.values():
-        files = sources_of(row.folder)
+        # Make does not see when `rt` has proved a crate below, so the sources of such a crate stand for it.
+        below = [every[it].folder for it in row.below] if IS_CHECKED else []
+        files = [file for it in (row.folder, *below) for file in sources_of(it)]
         needs = [str(it.relative_to(ROOT)) for it in {*files, *(it.parent for it in files)}]
         needs += [every[it].made() for it in row.stands_on if it in every and not IS_CHECKED]
         ready = f"{at}/WHAT".replace(" ", "\\ ") if at else "| kit"

@@ -18,7 +18,7 @@ use Rattle.dn_answers.proofs.WalkLaws.{at_among}
 use Rattle.dn_answers.proofs.ParallelLaws.{not_eq}
 
 module _ (height : ℤ → ℤ) where
-  -- the height does not rise by more than the LENGTH of the arc
+  -- the height does not grow by more than the LENGTH of the arc
   abbrev Gentle : (ℤ × ℤ) × LengthArc → Type 0
   Gentle a = height a.0.1 ≤ℤ (height a.0.0 +ℤ a.1.length)
 

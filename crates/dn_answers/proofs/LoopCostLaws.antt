@@ -25,7 +25,7 @@ grows : (c l y : ℤ) → pos 0 ≤ℤ c → l ≤ℤ y → (c *ℤ l) ≤ℤ (c
 grows c l y some le =
     omega (arith, ints, mul_mono (pos 0) c (y -ℤ l) some (omega (arith, ints)), mul_sub c y l)
 
--- a product with a factor of at most 0 does not rise with the other factor
+-- a product with a factor of at most 0 does not grow with the other factor
 falls : (c y u : ℤ) → c ≤ℤ pos 0 → y ≤ℤ u → (c *ℤ u) ≤ℤ (c *ℤ y)
 falls c y u none le =
     omega (arith, ints, mul_mono c (pos 0) (u -ℤ y) none (omega (arith, ints)), mul_sub c u y)

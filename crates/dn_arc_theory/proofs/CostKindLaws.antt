@@ -40,8 +40,9 @@ canon_arcs One xs c = form_one_arcs xs c
 canon_arcs Two xs c = form_two_arcs xs c
 
 none_canon : (form : Form) → AreCanonCosts form []
-none_canon One = record { fixed = []; free = []; parts = refl; each_fixed = tt; near = tt; each_free = tt; rising = tt }
-none_canon Two = record { each = tt; rising = tt; near = tt }
+none_canon One =
+    record { fixed = []; free = []; parts = refl; each_fixed = tt; near = tt; each_free = tt; ascending = tt }
+none_canon Two = record { each = tt; ascending = tt; near = tt }
 
 -- an amount has the same option of a cost on both sides, if its least costs are the same
 same_option : (xs ys : List CostArc) (x : ℤ) (l r : Option ℤ) → ((k : ℤ) → LeastCost xs x k → LeastCost ys x k)

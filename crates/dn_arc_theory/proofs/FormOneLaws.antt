@@ -128,7 +128,7 @@ not_less a b (e ∷ f) g p q s h =
     let left =
     after a (e ∷ f) (pos 1) (omega (arith, ints)) ∙ ap (λ z. (a.cost *ℤ room a) +ℤ z) (at_one e f p.each.1.0) in
     let right = fill_low b g (room a +ℤ pos 1) (omega (arith, ints)) ∙ ap (λ z. z *ℤ (room a +ℤ pos 1)) (sym cost) in
-    no_slope a.cost e.cost (room a) _ _ p.rising.0.0 left right
+    no_slope a.cost e.cost (room a) _ _ p.ascending.0.0 left right
     (s.each (room a +ℤ pos 1) (omega (arith, ints)) (omega (arith, ints)))
 
 same_room : (a b : CostArc) (f g : List CostArc) → AreFree (a ∷ f) → AreFree (b ∷ g) → IsSameFree (a ∷ f) (b ∷ g)

@@ -10,7 +10,7 @@ use Rattle.dn_arc_theory.specs.declared.arc.Form.{Form}
 use Rattle.dn_arc_theory.specs.declared.arc.Form.TheVariants.{One, Two}
 use Rattle.dn_arc_theory.specs.Splits.{LeastCost}
 use Rattle.dn_arc_theory.specs.Meanings.{SameCurve}
-use Rattle.dn_arc_theory.specs.Canonical.{IsMixedArc, AreRising, IsFormTwo, AreCanonCosts}
+use Rattle.dn_arc_theory.specs.Canonical.{IsMixedArc, AreAscending, IsFormTwo, AreCanonCosts}
 use Rattle.dn_arc_theory.specs.State.FillCosts.{room, IsFilling}
 use Rattle.dn_arc_theory.proofs.FillsLaws.{AreOrdered, exchange}
 use Rattle.dn_arc_theory.proofs.FormsLaws.{AreAbove, above_lower, form_one_ordered, form_two_ordered}
@@ -96,8 +96,8 @@ tails a xs ys s = record { rooms = λ c. cancel _ _ _ (s.rooms c); lows = λ c. 
 cap_by : (a b : CostArc) → a.low ≡ b.low → room a ≡ room b → a.cap ≡ b.cap
 cap_by a b e f = omega (arith, ints)
 
-mixed_same : (xs ys : List CostArc) → AllByRecursion IsMixedArc xs → AllByRecursion IsMixedArc ys → AreRising xs
-    → AreRising ys → IsSameAt xs ys → xs ≡ ys
+mixed_same : (xs ys : List CostArc) → AllByRecursion IsMixedArc xs → AllByRecursion IsMixedArc ys → AreAscending xs
+    → AreAscending ys → IsSameAt xs ys → xs ≡ ys
 mixed_same [] [] m n r t s = refl
 mixed_same [] (b ∷ ys) m n r t s = absurd (not_missing b ys [] n.0 t.0 tt (flip [] (b ∷ ys) s))
 mixed_same (a ∷ xs) [] m n r t s = absurd (not_missing a xs [] m.0 r.0 tt s)
@@ -122,8 +122,8 @@ determination_two xs ys p q s =
     let b = apart_parts ys o' in
     let u = sym a.units ∙ t.units ∙ b.units in
     let e = fixed_same _ _ (parts_fixed xs p.near) (parts_fixed ys q.near) u (sym a.cost ∙ t.cost ∙ b.cost) in
-    let f = free_same _ _ (parts_free xs p.rising) (parts_free ys q.rising) (same_free a b t) in
-    mixed_same xs ys p.each q.each p.rising q.rising (record {
+    let f = free_same _ _ (parts_free xs p.ascending) (parts_free ys q.ascending) (same_free a b t) in
+    mixed_same xs ys p.each q.each p.ascending q.ascending (record {
       rooms = λ c. sym (rooms_parts c xs p.each) ∙ ap (rooms_at c) f ∙ rooms_parts c ys q.each;
       lows = λ c. sym (lows_parts c xs p.each) ∙ ap (lows_at c) e ∙ lows_parts c ys q.each;
     })

@@ -4,7 +4,7 @@ use Rattle.std.proofs.Common.{◌≡◌, ℤ, pos, ◌+ℤ◌, ◌-ℤ◌, ◌*�
 use Rattle.std.proofs.lemmas.Int.{ints, by_lt_z}
 use Rattle.std.specs.List.{AllByRecursion}
 use Rattle.dn_arc_theory.specs.declared.arc.CostArc.{CostArc}
-use Rattle.dn_arc_theory.specs.Canonical.{IsCostArc, IsFixedArc, IsFreeArc, IsMixedArc, AreNear, AreRising, IsFormOne, IsFormTwo}
+use Rattle.dn_arc_theory.specs.Canonical.{IsCostArc, IsFixedArc, IsFreeArc, IsMixedArc, AreNear, AreAscending, IsFormOne, IsFormTwo}
 use Rattle.dn_arc_theory.specs.Fillings.{forced_units, forced_cost}
 use Rattle.dn_arc_theory.specs.State.FillCosts.{room, free_room, fill_cost}
 use Rattle.dn_arc_theory.proofs.FillsLaws.{NoneCheaper, AreOrdered, fill_low, fill_high, fill_zero}
@@ -16,7 +16,7 @@ AreAbove c arcs = AllByRecursion (λ (b : CostArc). c <ℤ b.cost) arcs
 -- free arcs by strictly ascending cost
 pub record AreFree (arcs : List CostArc) : Type 0 where
   pub each : AllByRecursion IsFreeArc arcs
-  pub rising : AreRising arcs
+  pub ascending : AreAscending arcs
 
 -- at most two fixed arcs, of costs c and c + 1
 pub record AreFixed (arcs : List CostArc) : Type 0 where
@@ -24,13 +24,13 @@ pub record AreFixed (arcs : List CostArc) : Type 0 where
   pub near : AreNear arcs
 
 pub rest_free : (a : CostArc) (rest : List CostArc) → AreFree (a ∷ rest) → AreFree rest
-rest_free a rest f = record { each = f.each.1; rising = f.rising.1 }
+rest_free a rest f = record { each = f.each.1; ascending = f.ascending.1 }
 
 pub fixed_of : (arcs : List CostArc) (f : IsFormOne arcs) → AreFixed f.fixed
 fixed_of arcs f = record { each = f.each_fixed; near = f.near }
 
 pub free_of : (arcs : List CostArc) (f : IsFormOne arcs) → AreFree f.free
-free_of arcs f = record { each = f.each_free; rising = f.rising }
+free_of arcs f = record { each = f.each_free; ascending = f.ascending }
 
 pub above_lower : (c d : ℤ) (xs : List CostArc) → c <ℤ d → AreAbove d xs → AreAbove c xs
 above_lower c d [] h a = tt
@@ -49,7 +49,7 @@ fixed_arc_is a f = record { some = omega (arith, ints); room = omega (arith, int
 pub free_ordered : (arcs : List CostArc) → AreFree arcs → AreOrdered arcs
 free_ordered [] f = tt
 free_ordered (a ∷ rest) f =
-    (free_arc_is a f.each.0, (λ some. none_cheaper a.cost rest f.rising.0), free_ordered rest (rest_free a rest f))
+    (free_arc_is a f.each.0, (λ some. none_cheaper a.cost rest f.ascending.0), free_ordered rest (rest_free a rest f))
 
 fixed_before : (fixed free : List CostArc) → AllByRecursion IsFixedArc fixed → AreOrdered free
     → AreOrdered (fixed ++ free)
@@ -60,12 +60,12 @@ fixed_before (a ∷ rest) free f o =
 pub form_one_ordered : (arcs : List CostArc) → IsFormOne arcs → AreOrdered arcs
 form_one_ordered arcs f = rw f.parts (fixed_before f.fixed f.free f.each_fixed (free_ordered f.free (free_of arcs f)))
 
-pub mixed_ordered : (arcs : List CostArc) → AllByRecursion IsMixedArc arcs → AreRising arcs → AreOrdered arcs
+pub mixed_ordered : (arcs : List CostArc) → AllByRecursion IsMixedArc arcs → AreAscending arcs → AreOrdered arcs
 mixed_ordered [] m r = tt
 mixed_ordered (a ∷ rest) m r = (m.0.is_arc, (λ some. none_cheaper a.cost rest r.0), mixed_ordered rest m.1 r.1)
 
 pub form_two_ordered : (arcs : List CostArc) → IsFormTwo arcs → AreOrdered arcs
-form_two_ordered arcs f = mixed_ordered arcs f.each f.rising
+form_two_ordered arcs f = mixed_ordered arcs f.each f.ascending
 
 each_ordered_arc : (arcs : List CostArc) → AreOrdered arcs → AllByRecursion IsCostArc arcs
 each_ordered_arc [] o = tt

@@ -5,7 +5,7 @@ use Rattle.std.proofs.lemmas.Int.{ints, by_lt_z}
 use Rattle.std.specs.List.{AllByRecursion}
 use Rattle.dn_arc_theory.specs.Kinds.{costs}
 use Rattle.dn_arc_theory.specs.declared.arc.CostArc.{CostArc}
-use Rattle.dn_arc_theory.specs.Canonical.{IsFixedArc, IsMixedArc, AreNear, AreRising, has_low}
+use Rattle.dn_arc_theory.specs.Canonical.{IsFixedArc, IsMixedArc, AreNear, AreAscending, has_low}
 use Rattle.dn_arc_theory.specs.Entries.{has_room}
 use Rattle.dn_arc_theory.specs.Fillings.{forced_units, forced_cost}
 use Rattle.dn_arc_theory.specs.State.FillCosts.{room}
@@ -65,12 +65,12 @@ joined_costs P a (b ∷ rest) p h =
     (λ gt. (h.0, joined_costs P a rest p h.1))
     (λ eq. h)
 
-pub joined_rising : (a : CostArc) (arcs : List CostArc) → AreRising arcs → AreRising (join_arc a arcs)
-joined_rising a [] r = (tt, tt)
-joined_rising a (b ∷ rest) r =
-    by_place AreRising a b rest
+pub joined_ascending : (a : CostArc) (arcs : List CostArc) → AreAscending arcs → AreAscending (join_arc a arcs)
+joined_ascending a [] r = (tt, tt)
+joined_ascending a (b ∷ rest) r =
+    by_place AreAscending a b rest
     (λ lt. ((lt, above_lower a.cost b.cost rest lt r.0), r))
-    (λ gt. (joined_costs (λ c. b.cost <ℤ c) a rest gt r.0, joined_rising a rest r.1))
+    (λ gt. (joined_costs (λ c. b.cost <ℤ c) a rest gt r.0, joined_ascending a rest r.1))
     (λ eq. r)
 
 joined_mixed : (a : CostArc) (arcs : List CostArc) → IsFixedArc a → AllByRecursion IsMixedArc arcs
@@ -137,19 +137,19 @@ joined_low a (b ∷ rest) f m u =
 -- what holds of the arcs after fixed arcs have been merged into arcs without LOW
 pub record AreJoined (fixed free arcs : List CostArc) : Type 0 where
   pub each : AllByRecursion IsMixedArc arcs
-  pub rising : AreRising arcs
+  pub ascending : AreAscending arcs
   pub near : AreNear (filter has_low arcs)
   pub units : forced_units arcs ≡ forced_units fixed +ℤ forced_units free
   pub cost : forced_cost arcs ≡ forced_cost fixed +ℤ forced_cost free
   pub cap : costs.capacity arcs ≡ costs.capacity fixed +ℤ costs.capacity free
   pub parts : free_parts arcs ≡ free_parts free
 
-join_none : (free : List CostArc) → AllByRecursion IsMixedArc free → AreRising free → filter has_low free ≡ []
+join_none : (free : List CostArc) → AllByRecursion IsMixedArc free → AreAscending free → filter has_low free ≡ []
     → AreJoined [] free free
 join_none free m r n =
     record {
       each = m;
-      rising = r;
+      ascending = r;
       near = rw n tt;
       units = omega (arith, ints);
       cost = omega (arith, ints);
@@ -157,14 +157,14 @@ join_none free m r n =
       parts = refl;
     }
 
-join_one : (a : CostArc) (free : List CostArc) → IsFixedArc a → AllByRecursion IsMixedArc free → AreRising free
+join_one : (a : CostArc) (free : List CostArc) → IsFixedArc a → AllByRecursion IsMixedArc free → AreAscending free
     → filter has_low free ≡ [] → AreJoined (a ∷ []) free (join_arc a free)
 join_one a free f m r n =
     let l = joined_low a free f.some m (rw n tt) in
     let is : filter has_low (join_arc a free) ≡ l.arc ∷ [] = l.is ∙ ap (λ x. l.arc ∷ x) n in
     record {
       each = joined_mixed a free f m;
-      rising = joined_rising a free r;
+      ascending = joined_ascending a free r;
       near = rw is tt;
       units = omega (arith, ints, joined_units a free);
       cost = omega (arith, ints, joined_cost a free);
@@ -173,7 +173,7 @@ join_one a free f m r n =
     }
 
 join_two : (a b : CostArc) (free : List CostArc) → IsFixedArc a → IsFixedArc b → b.cost ≡ a.cost +ℤ pos 1
-    → AllByRecursion IsMixedArc free → AreRising free → filter has_low free ≡ []
+    → AllByRecursion IsMixedArc free → AreAscending free → filter has_low free ≡ []
     → AreJoined (a ∷ b ∷ []) free (join_arc a (join_arc b free))
 join_two a b free f g e m r n =
     let arcs = join_arc b free in
@@ -184,7 +184,7 @@ join_two a b free f g e m r n =
     let both : filter has_low (join_arc a arcs) ≡ k.arc ∷ l.arc ∷ [] = k.is ∙ ap (λ x. k.arc ∷ x) is in
     record {
       each = joined_mixed a arcs f i.each;
-      rising = joined_rising a arcs i.rising;
+      ascending = joined_ascending a arcs i.ascending;
       near = rw both (omega (arith, ints));
       units = omega (arith, ints, joined_units a arcs);
       cost = omega (arith, ints, joined_cost a arcs);
@@ -192,7 +192,7 @@ join_two a b free f g e m r n =
       parts = joined_free a arcs f.full ∙ i.parts;
     }
 
-pub join_all : (fixed free : List CostArc) → AreFixed fixed → AllByRecursion IsMixedArc free → AreRising free
+pub join_all : (fixed free : List CostArc) → AreFixed fixed → AllByRecursion IsMixedArc free → AreAscending free
     → filter has_low free ≡ [] → AreJoined fixed free (join_arcs fixed free)
 join_all [] free f m r n = join_none free m r n
 join_all (a ∷ []) free f m r n = join_one a free f.each.0 m r n

@@ -78,7 +78,7 @@ steps_low (step ∷ rest) = steps_low rest
 
 -- the canonical arcs of forced units, their cost and breakpoints
 module _ (units cost : ℤ) (steps : List (ℤ × ℤ)) (some : pos 0 ≤ℤ units) (none : units ≡ pos 0 → cost ≡ pos 0)
-    (rising : AreSteps steps) where
+    (ascending : AreSteps steps) where
   pub carried : Carries (fixed_arcs units cost) units cost
   carried = fixed_carries units cost some none
 
@@ -89,17 +89,17 @@ module _ (units cost : ℤ) (steps : List (ℤ × ℤ)) (some : pos 0 ≤ℤ uni
     parts = refl;
     each_fixed = carried.are.each;
     near = carried.are.near;
-    each_free = (free_arcs steps rising).each;
-    rising = (free_arcs steps rising).rising;
+    each_free = (free_arcs steps ascending).each;
+    ascending = (free_arcs steps ascending).ascending;
   }
 
   joins : AreJoined (fixed_arcs units cost) (map step_arc steps) (listed Two units cost steps)
   joins =
-      join_all (fixed_arcs units cost) (map step_arc steps) carried.are (steps_mixed steps rising)
-      (free_arcs steps rising).rising (steps_low steps)
+      join_all (fixed_arcs units cost) (map step_arc steps) carried.are (steps_mixed steps ascending)
+      (free_arcs steps ascending).ascending (steps_low steps)
 
   pub listed_two : IsFormTwo (listed Two units cost steps)
-  listed_two = record { each = joins.each; rising = joins.rising; near = joins.near }
+  listed_two = record { each = joins.each; ascending = joins.ascending; near = joins.near }
 
   pub listed_canonical : (form : Form) → AreCanonCosts form (listed form units cost steps)
   listed_canonical One = listed_one
@@ -143,19 +143,19 @@ sums (a ∷ fixed) free f =
     }
 
 module _ (units cost : ℤ) (steps : List (ℤ × ℤ)) (some : pos 0 ≤ℤ units) (none : units ≡ pos 0 → cost ≡ pos 0)
-    (rising : AreSteps steps) where
+    (ascending : AreSteps steps) where
   abbrev fixed : Carries (fixed_arcs units cost) units cost
-  fixed = carried units cost steps some none rising
+  fixed = carried units cost steps some none ascending
 
   abbrev join : AreJoined (fixed_arcs units cost) (map step_arc steps) (listed Two units cost steps)
-  join = joins units cost steps some none rising
+  join = joins units cost steps some none ascending
 
   all : AreSums (fixed_arcs units cost) (map step_arc steps)
   all = sums (fixed_arcs units cost) (map step_arc steps) fixed.are.each
 
   -- the arcs of form 1 are filled as the fixed arcs and the breakpoints
   pub listed_apart : IsApart (listed One units cost steps) (fixed_arcs units cost) (map step_arc steps)
-  listed_apart = apart (fixed_arcs units cost) (map step_arc steps) fixed.are.each (free_arcs steps rising)
+  listed_apart = apart (fixed_arcs units cost) (map step_arc steps) fixed.are.each (free_arcs steps ascending)
 
   pub listed_units : forced_units (listed One units cost steps) ≡ units
   listed_units = omega (arith, ints, steps_units steps, fixed.units_is, all.units)
@@ -172,10 +172,10 @@ module _ (units cost : ℤ) (steps : List (ℤ × ℤ)) (some : pos 0 ≤ℤ uni
   pub listed_same : SameCurve (listed Two units cost steps) (listed One units cost steps)
   listed_same =
       same_by_parts (listed Two units cost steps) (listed One units cost steps)
-      (form_two_ordered _ (listed_two units cost steps some none rising))
-      (form_one_ordered _ (listed_one units cost steps some none rising)) (join.units ∙ sym all.units)
+      (form_two_ordered _ (listed_two units cost steps some none ascending))
+      (form_one_ordered _ (listed_one units cost steps some none ascending)) (join.units ∙ sym all.units)
       (join.cost ∙ sym all.cost) (join.parts ∙ sym all.parts)
 
   pub listed_arcs : (form : Form) → AllByRecursion IsCostArc (listed form units cost steps)
-  listed_arcs One = form_one_arcs _ (listed_one units cost steps some none rising)
-  listed_arcs Two = form_two_arcs _ (listed_two units cost steps some none rising)
+  listed_arcs One = form_one_arcs _ (listed_one units cost steps some none ascending)
+  listed_arcs Two = form_two_arcs _ (listed_two units cost steps some none ascending)

@@ -4,7 +4,7 @@ use Rattle.std.proofs.Common.{◌≡◌, ℤ, pos, ◌+ℤ◌, ◌-ℤ◌, ◌*�
 use Rattle.std.proofs.lemmas.Int.{ints, by_lt_z}
 use Rattle.std.specs.List.{AllByRecursion}
 use Rattle.dn_arc_theory.specs.declared.arc.CostArc.{CostArc}
-use Rattle.dn_arc_theory.specs.Canonical.{IsFixedArc, IsFreeArc, AreNear, AreRising, has_low}
+use Rattle.dn_arc_theory.specs.Canonical.{IsFixedArc, IsFreeArc, AreNear, AreAscending, has_low}
 use Rattle.dn_arc_theory.specs.Entries.{has_room}
 use Rattle.dn_arc_theory.specs.Fillings.{forced_units, forced_cost}
 use Rattle.dn_arc_theory.specs.State.FillCosts.{room, free_room, fill_cost}
@@ -57,14 +57,14 @@ each_free_part (a ∷ rest) =
     by_lt_z a.low a.cap (λ lt. rw test_yes (record { none = refl; room = omega (arith, ints) }, each_free_part rest))
     (λ le. rw test_no (each_free_part rest))
 
-rising_parts : (xs : List CostArc) → AreRising xs → AreRising (free_parts xs)
-rising_parts [] r = tt
-rising_parts (a ∷ rest) r =
-    by_lt_z a.low a.cap (λ lt. rw test_yes (above_parts a.cost rest r.0, rising_parts rest r.1))
-    (λ le. rw test_no (rising_parts rest r.1))
+ascending_parts : (xs : List CostArc) → AreAscending xs → AreAscending (free_parts xs)
+ascending_parts [] r = tt
+ascending_parts (a ∷ rest) r =
+    by_lt_z a.low a.cap (λ lt. rw test_yes (above_parts a.cost rest r.0, ascending_parts rest r.1))
+    (λ le. rw test_no (ascending_parts rest r.1))
 
-pub parts_free : (xs : List CostArc) → AreRising xs → AreFree (free_parts xs)
-parts_free xs r = record { each = each_free_part xs; rising = rising_parts xs r }
+pub parts_free : (xs : List CostArc) → AreAscending xs → AreFree (free_parts xs)
+parts_free xs r = record { each = each_free_part xs; ascending = ascending_parts xs r }
 
 units_parts : (xs : List CostArc) → AreOrdered xs → forced_units xs ≡ forced_units (fixed_parts xs)
 units_parts [] o = refl

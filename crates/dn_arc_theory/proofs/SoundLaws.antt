@@ -88,16 +88,16 @@ module _ (units cost total : ℤ) (steps : List (ℤ × ℤ)) (s : IsSound units
   none_is e = none_cost cost units e s.mean
 
   pub sound_canonical : (form : Form) → AreCanonCosts form (listed form units cost steps)
-  sound_canonical form = listed_canonical units cost steps s.some none_is s.rising form
+  sound_canonical form = listed_canonical units cost steps s.some none_is s.ascending form
 
   pub sound_same : SameCurve (listed Two units cost steps) (listed One units cost steps)
-  sound_same = listed_same units cost steps s.some none_is s.rising
+  sound_same = listed_same units cost steps s.some none_is s.ascending
 
   pub sound_cap : (form : Form) → costs.capacity (listed form units cost steps) ≡ total
-  sound_cap form = listed_cap units cost steps s.some none_is s.rising form ∙ sym s.whole
+  sound_cap form = listed_cap units cost steps s.some none_is s.ascending form ∙ sym s.whole
 
   pub sound_arcs : (form : Form) → AllByRecursion IsCostArc (listed form units cost steps)
-  sound_arcs form = listed_arcs units cost steps s.some none_is s.rising form
+  sound_arcs form = listed_arcs units cost steps s.some none_is s.ascending form
 
   costs_fit : (form : Form) → CostsFit (listed form units cost steps)
   costs_fit One =

@@ -22,9 +22,12 @@ above_arcs c (s ∷ rest) h = (h.0, above_arcs c rest h.1)
 
 -- the arcs of breakpoints are free arcs
 pub free_arcs : (steps : List (ℤ × ℤ)) → AreSteps steps → AreFree (map step_arc steps)
-free_arcs [] s = record { each = tt; rising = tt }
+free_arcs [] s = record { each = tt; ascending = tt }
 free_arcs (step ∷ rest) s = let i = free_arcs rest s.2 in
-    record { each = (record { none = refl; room = s.0 }, i.each); rising = (above_arcs step.0 rest s.1, i.rising) }
+    record {
+      each = (record { none = refl; room = s.0 }, i.each);
+      ascending = (above_arcs step.0 rest s.1, i.ascending);
+    }
 
 -- a case distinction by where the capacity is added
 pub by_put : (P : List (ℤ × ℤ) → Type 0) (step : ℤ × ℤ) (rest : List (ℤ × ℤ)) (more : ℤ × ℤ)

@@ -56,8 +56,8 @@ ArePairwise R [] = Unit {0}
 ArePairwise R (x ∷ rest) = AllByRecursion (R x) rest × ArePairwise R rest
 
 -- the arcs are sorted by strictly ascending COST
-abbrev pub AreRising : List CostArc → Type 0
-AreRising arcs = ArePairwise (λ a b. a.cost <ℤ b.cost) arcs
+abbrev pub AreAscending : List CostArc → Type 0
+AreAscending arcs = ArePairwise (λ a b. a.cost <ℤ b.cost) arcs
 
 -- `min`, form 1: at most two fixed arcs, of costs c and c + 1, and then free arcs by strictly ascending COST
 pub record IsFormOne (arcs : List CostArc) : Type 0 where
@@ -67,7 +67,7 @@ pub record IsFormOne (arcs : List CostArc) : Type 0 where
   pub each_fixed : AllByRecursion IsFixedArc fixed
   pub near : AreNear fixed
   pub each_free : AllByRecursion IsFreeArc free
-  pub rising : AreRising free
+  pub ascending : AreAscending free
 
 -- the LOW of the arc is above 0
 abbrev pub has_low : CostArc → Bool
@@ -77,7 +77,7 @@ has_low a = int_lt (pos 0) a.low
 -- + 1
 pub record IsFormTwo (arcs : List CostArc) : Type 0 where
   pub each : AllByRecursion IsMixedArc arcs
-  pub rising : AreRising arcs
+  pub ascending : AreAscending arcs
   pub near : AreNear (filter has_low arcs)
 
 -- `min`: the canonical arcs of this form

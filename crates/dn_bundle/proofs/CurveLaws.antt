@@ -57,7 +57,7 @@ module _ (units cost total : ℤ) (steps : List (ℤ × ℤ)) (s : IsSound units
   both : AreApart (fixed_arcs units cost) steps
   both =
       fixed_apart (fixed_arcs units cost) steps
-      (carried units cost steps s.some (none_is units cost total steps s) s.rising).are.each
+      (carried units cost steps s.some (none_is units cost total steps s) s.ascending).are.each
 
   -- the arcs with LOW above 0 are the fixed arcs
   pub low_arcs : filter has_low (listed One units cost steps) ≡ fixed_arcs units cost
@@ -68,8 +68,8 @@ module _ (units cost total : ℤ) (steps : List (ℤ × ℤ)) (s : IsSound units
   free_arcs = both.free
 
   steps_listed : arc_steps (listed One units cost steps) ≡ steps
-  steps_listed = let c = carried units cost steps s.some (none_is units cost total steps s) s.rising in
-      fixed_back (fixed_arcs units cost) steps c.are.each ∙ steps_back steps s.rising
+  steps_listed = let c = carried units cost steps s.some (none_is units cost total steps s) s.ascending in
+      fixed_back (fixed_arcs units cost) steps c.are.each ∙ steps_back steps s.ascending
 
   -- the costs with free capacity are those of the breakpoints
   pub costs_listed : length (free_costs (listed One units cost steps)) ≡ length steps
@@ -77,15 +77,15 @@ module _ (units cost total : ℤ) (steps : List (ℤ × ℤ)) (s : IsSound units
 
   pub entries_listed : cost_entries (listed One units cost steps) ≡ cond (int_lt (pos 0) units) 1 0 + length steps
   entries_listed =
-      let u = listed_units units cost steps s.some (none_is units cost total steps s) s.rising in
+      let u = listed_units units cost steps s.some (none_is units cost total steps s) s.ascending in
       rw (entries_are (listed One units cost steps) (sound_arcs units cost total steps s One), u, steps_listed)
 
   nothing_there : total ≡ pos 0 → SameCurve (listed One units cost steps) []
   nothing_there e =
-      let left = steps_some steps s.rising in
+      let left = steps_some steps s.ascending in
       let rooms : steps_room steps ≡ pos 0 = omega (arith, ints) in
       by_lt_z (pos 0) units (λ lt. absurd (omega (arith, ints)))
-      (λ le. rw (test_no (pos 0) units le, no_steps steps s.rising rooms) (curve_meaning.same_refl []))
+      (λ le. rw (test_no (pos 0) units le, no_steps steps s.ascending rooms) (curve_meaning.same_refl []))
     where
       no_steps : (steps : List (ℤ × ℤ)) → AreSteps steps → steps_room steps ≡ pos 0 → steps ≡ []
       no_steps [] r e = refl

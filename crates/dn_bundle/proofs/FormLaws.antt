@@ -8,7 +8,7 @@ use Rattle.std.proofs.lemmas.Int.{ints, by_lt_z, to_z-of_z}
 use Rattle.std.proofs.lemmas.List.Elements.{All-contains_itself, Contains-append_left, Contains-append_right, recursion_from_All}
 use Rattle.dn_arc_theory.specs.declared.arc.CostArc.{CostArc}
 use Rattle.dn_arc_theory.specs.declared.arc.Form.TheVariants.{One, Two}
-use Rattle.dn_arc_theory.specs.Canonical.{IsFixedArc, AreNear, AreRising}
+use Rattle.dn_arc_theory.specs.Canonical.{IsFixedArc, AreNear, AreAscending}
 use Rattle.dn_arc_theory.specs.Fillings.{forced_units}
 use Rattle.dn_arc_theory.specs.State.Steps.{step_past, AreSteps, steps_room}
 use Rattle.dn_arc_theory.specs.State.CurveListed.{fixed_arc, step_arc, fixed_arcs, join_arc, join_arcs, joined_head, listed, IsSound}
@@ -274,7 +274,7 @@ some_same : (a b : CostArc) → Some a ≡ Some b → a ≡ b
 some_same a b e = ap (λ (o : Option CostArc). unwrap_or o a) e
 
 -- the first arc above the cost of an arc is the arc after it
-pub after_place : (arcs : List CostArc) (i : ℕ) (a : CostArc) → AreRising arcs → slice_get arcs i ≡ Some a
+pub after_place : (arcs : List CostArc) (i : ℕ) (a : CostArc) → AreAscending arcs → slice_get arcs i ≡ Some a
     → arc_past a.cost arcs ≡ slice_get arcs (suc i)
 after_place [] i a r e = cc
 after_place (b ∷ rest) zero a r e =
@@ -285,7 +285,7 @@ after_place (b ∷ rest) (suc i) a r e =
     past_no a.cost b rest (omega (arith, ints)) ∙ after_place rest i a r.1 e
 
 -- the arc after a free arc is the next free arc
-pub after_free : (fixed free : List CostArc) (i : ℕ) (a : CostArc) → AllByRecursion IsFixedArc fixed → AreRising free
+pub after_free : (fixed free : List CostArc) (i : ℕ) (a : CostArc) → AllByRecursion IsFixedArc fixed → AreAscending free
     → a.low ≡ pos 0 → slice_get (fixed ++ free) i ≡ Some a → arc_past a.cost free ≡ slice_get (fixed ++ free) (suc i)
 after_free [] free i a f r z e = after_place free i a r e
 after_free (b ∷ fixed) free zero a f r z e = let low = subst (Holds (λ (d : CostArc). pos 1 ≤ℤ d.low)) e f.0.some in
@@ -311,7 +311,7 @@ fixed_place c (b ∷ fixed) free zero a h n z e = subst (Holds (λ (d : CostArc)
 fixed_place c (b ∷ fixed) free (suc i) a h n z e = fixed_place c fixed free i a h.1 n z e
 
 -- the arc after a fixed arc is the next fixed arc, or else the first free arc
-pub after_fixed : (fixed free : List CostArc) (i : ℕ) (a : CostArc) → AreRising fixed
+pub after_fixed : (fixed free : List CostArc) (i : ℕ) (a : CostArc) → AreAscending fixed
     → AllByRecursion (λ (b : CostArc). b.low ≡ pos 0) free → (a.low ≡ pos 0 → ⊥) → slice_get (fixed ++ free) i ≡ Some a
     → or_first (arc_past a.cost fixed) (slice_get free 0) ≡ slice_get (fixed ++ free) (suc i)
 after_fixed [] free i a r n z e = absurd (z (get_holds (λ (b : CostArc). b.low ≡ pos 0) free i a n e))
@@ -327,11 +327,11 @@ steps_none : (steps : List (ℤ × ℤ)) → AllByRecursion (λ (b : CostArc). b
 steps_none [] = tt
 steps_none (step ∷ rest) = (refl, steps_none rest)
 
-fixed_rises : (fixed : List CostArc) → AreNear fixed → AreRising fixed
-fixed_rises [] n = tt
-fixed_rises (a ∷ []) n = (tt, tt)
-fixed_rises (a ∷ b ∷ []) n = ((omega (arith, ints), tt), (tt, tt))
-fixed_rises (a ∷ b ∷ c ∷ rest) n = absurd n
+fixed_ascends : (fixed : List CostArc) → AreNear fixed → AreAscending fixed
+fixed_ascends [] n = tt
+fixed_ascends (a ∷ []) n = (tt, tt)
+fixed_ascends (a ∷ b ∷ []) n = ((omega (arith, ints), tt), (tt, tt))
+fixed_ascends (a ∷ b ∷ c ∷ rest) n = absurd n
 
 at_next : (arcs : List CostArc) (i : ℕ) → slice_get arcs (suc i) ≡ slice_get arcs (i + 1)
 at_next arcs i = ap (slice_get arcs) (let e : suc i ≡ i + 1 = omega arith in e)
@@ -362,20 +362,20 @@ step_parts most (step ∷ rest) s h =
 -- the numbers of a curve
 module _ (units cost total : ℤ) (steps : List (ℤ × ℤ)) (s : IsSound units cost total steps) where
   is : Carries (fixed_arcs units cost) units cost
-  is = carried units cost steps s.some (none_is units cost total steps s) s.rising
+  is = carried units cost steps s.some (none_is units cost total steps s) s.ascending
 
   pub next_free : (a : CostArc) (i : ℕ) → a.low ≡ pos 0 → slice_get (listed One units cost steps) i ≡ Some a
       → option_map step_arc (step_past steps a.cost) ≡ slice_get (listed One units cost steps) (i + 1)
   next_free a i z e =
       sym (past_steps steps a.cost) ∙ after_free (fixed_arcs units cost) (map step_arc steps) i a is.are.each
-      (free_arcs steps s.rising).rising z e ∙ at_next (listed One units cost steps) i
+      (free_arcs steps s.ascending).ascending z e ∙ at_next (listed One units cost steps) i
 
   pub next_fixed : (a : CostArc) (i : ℕ) → (a.low ≡ pos 0 → ⊥) → slice_get (listed One units cost steps) i ≡ Some a
       → or_first (arc_past a.cost (fixed_arcs units cost)) (option_map step_arc (slice_get steps 0)) ≡ slice_get
       (listed One units cost steps) (i + 1)
   next_fixed a i z e =
       ap (or_first (arc_past a.cost (fixed_arcs units cost))) (sym (first_step steps))
-      ∙ after_fixed (fixed_arcs units cost) (map step_arc steps) i a (fixed_rises (fixed_arcs units cost) is.are.near)
+      ∙ after_fixed (fixed_arcs units cost) (map step_arc steps) i a (fixed_ascends (fixed_arcs units cost) is.are.near)
       (steps_none steps) z e
       ∙ at_next (listed One units cost steps) i
 
@@ -402,7 +402,7 @@ module _ (units cost total : ℤ) (steps : List (ℤ × ℤ)) (s : IsSound units
       → arc_past a.cost (listed Two units cost steps) ≡ slice_get (listed Two units cost steps) (i + 1)
   next_two a i e =
       after_place (listed Two units cost steps) i a
-      (listed_two units cost steps s.some (none_is units cost total steps s) s.rising).rising e
+      (listed_two units cost steps s.some (none_is units cost total steps s) s.ascending).ascending e
       ∙ at_next (listed Two units cost steps) i
 
   -- the arcs that the code finds in form 1 are listed
@@ -427,7 +427,7 @@ module _ (units cost total : ℤ) (steps : List (ℤ × ℤ)) (s : IsSound units
   fixed_are = let u = is.units_is in fixed_parts units (fixed_arcs units cost) is.are.each (omega (arith, ints))
 
   steps_are : AllByRecursion (λ (step : ℤ × ℤ). IsPart (steps_room steps) step.1) steps
-  steps_are = step_parts (steps_room steps) steps s.rising (≤ℤ_refl _)
+  steps_are = step_parts (steps_room steps) steps s.ascending (≤ℤ_refl _)
 
   sum_fits : (fixed : CostArc) (step : ℤ × ℤ) → IsPart units fixed.cap → IsPart (steps_room steps) step.1
       → FitsSigned w64 (fixed.cap +ℤ step.1)

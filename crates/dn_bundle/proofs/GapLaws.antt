@@ -126,7 +126,7 @@ same_steps l r = int_eq l.0 r.0 && int_eq l.1 r.1
 module _ (amount cost : ℤ) (left right rest : List (ℤ × ℤ)) (l : ℤ × ℤ) (w : AreWalks amount cost left right)
     (e : left ≡ l ∷ rest) where
   left_steps : AreSteps (l ∷ rest)
-  left_steps = rw e at w.left_rising
+  left_steps = rw e at w.left_ascending
 
   left_whole : (amount +ℤ l.1) ≤ℤ pos (2 ^ 63 - 1)
   left_whole =
@@ -146,7 +146,7 @@ module _ (amount cost : ℤ) (left right rest : List (ℤ × ℤ)) (l : ℤ × �
 pub right_now : (amount cost : ℤ) (left right rest : List (ℤ × ℤ)) (r : ℤ × ℤ) → AreWalks amount cost left right
     → right ≡ r ∷ rest → amount <ℤ pos (2 ^ 63 - 1)
 right_now amount cost left right rest r w e =
-    let s : AreSteps (r ∷ rest) = rw e at w.right_rising in
+    let s : AreSteps (r ∷ rest) = rw e at w.right_ascending in
     omega (arith, ints, steps_some rest s.2, rw e at w.right_most)
 
 -- the next breakpoint on each side
@@ -158,13 +158,13 @@ module _ (amount cost : ℤ) (left right lrest rrest : List (ℤ × ℤ)) (l r :
   pub are_part : not (same_steps l r) ≡ true → ArePart amount cost l r
   are_part h =
       let b = both in
-      let lmore = steps_some lrest b.left_rising.2 in
-      let rmore = steps_some rrest b.right_rising.2 in
+      let lmore = steps_some lrest b.left_ascending.2 in
+      let rmore = steps_some rrest b.right_ascending.2 in
       record {
         some = w.some;
         mean = w.mean;
-        left_room = b.left_rising.0;
-        right_room = b.right_rising.0;
+        left_room = b.left_ascending.0;
+        right_room = b.right_ascending.0;
         left_most = omega (arith, ints);
         right_most = omega (arith, ints);
         differ = λ c k. grind (arith, ints);
@@ -186,8 +186,8 @@ module _ (amount cost : ℤ) (left right lrest rrest : List (ℤ × ℤ)) (l r :
       record {
         some = omega (arith, ints);
         mean = more_mean cost l.1 l.0 amount w.some (omega (arith, ints)) f w.mean;
-        left_rising = b.left_rising.2;
-        right_rising = b.right_rising.2;
+        left_ascending = b.left_ascending.2;
+        right_ascending = b.right_ascending.2;
         left_most = omega (arith, ints);
         right_most = omega (arith, ints);
       }

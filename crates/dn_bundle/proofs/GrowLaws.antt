@@ -49,7 +49,7 @@ module _ (units cost total : ℤ) (steps : List (ℤ × ℤ)) (a : CostArc) (tot
     (h : IsCostArc a) (e : total' ≡ total +ℤ a.cap) (ft : FitsSigned w64 total') where
   pub units_most : (units +ℤ a.low) ≤ℤ pos (2 ^ 63 - 1)
   units_most =
-      let left = steps_some steps s.rising in
+      let left = steps_some steps s.ascending in
       omega (arith, ints, most total' ft)
 
   pub cost_fits : FitsSigned w64 a.cost → FitsSigned w128 (cost +ℤ (a.low *ℤ a.cost))
@@ -60,7 +60,7 @@ module _ (units cost total : ℤ) (steps : List (ℤ × ℤ)) (a : CostArc) (tot
 
   pub room_fits : FitsSigned w64 (a.cap -ℤ a.low)
   room_fits =
-      let left = steps_some steps s.rising in
+      let left = steps_some steps s.ascending in
       let m = most total' ft in
       fits_some (a.cap -ℤ a.low) (omega (arith, ints)) (omega (arith, ints))
 
@@ -69,13 +69,13 @@ module _ (units cost total : ℤ) (steps : List (ℤ × ℤ)) (a : CostArc) (tot
 
   added : SameAbove (map step_arc (add_step steps more)) (free_arc a.cost (a.cap -ℤ a.low) ∷ map step_arc steps)
   added =
-      by_lt_z (pos 0) (a.cap -ℤ a.low) (λ lt. rw test_yes (put_above steps more (omega (arith, ints)) s.rising))
+      by_lt_z (pos 0) (a.cap -ℤ a.low) (λ lt. rw test_yes (put_above steps more (omega (arith, ints)) s.ascending))
       (λ le. rw test_no (above_meaning.same_sym _ _ (above_none a.cost (a.cap -ℤ a.low) _ (omega (arith, ints)))))
 
-  rises : AreSteps (add_step steps more)
-  rises =
-      by_lt_z (pos 0) (a.cap -ℤ a.low) (λ lt. rw test_yes (put_steps steps more (omega (arith, ints)) s.rising))
-      (λ le. rw test_no s.rising)
+  ascends : AreSteps (add_step steps more)
+  ascends =
+      by_lt_z (pos 0) (a.cap -ℤ a.low) (λ lt. rw test_yes (put_steps steps more (omega (arith, ints)) s.ascending))
+      (λ le. rw test_no s.ascending)
 
   rooms : steps_room (add_step steps more) ≡ steps_room steps +ℤ (a.cap -ℤ a.low)
   rooms =
@@ -91,7 +91,7 @@ module _ (units cost total : ℤ) (steps : List (ℤ × ℤ)) (a : CostArc) (tot
           mean = more_mean cost a.low a.cost units s.some h.some fk s.mean;
           whole = omega (arith, ints);
           most = most total' ft;
-          rising = rises;
+          ascending = ascends;
           fit =
               by_lt_z (pos 0) (a.cap -ℤ a.low) (λ lt. rw test_yes (fit_put steps more fk s.fit))
               (λ le. rw test_no s.fit);
@@ -107,8 +107,8 @@ module _ (units cost total : ℤ) (steps : List (ℤ × ℤ)) (a : CostArc) (tot
       pub grown_same : SameCurve (listed One u c l) (listed One units cost steps ++ a ∷ [])
       grown_same =
           let n = grown_sound in
-          listed_added units cost u c steps l a s.some (none_is units cost total steps s) s.rising n.some
-          (none_is u c t l n) n.rising eu ec (rw el added)
+          listed_added units cost u c steps l a s.some (none_is units cost total steps s) s.ascending n.some
+          (none_is u c t l n) n.ascending eu ec (rw el added)
 
   -- the breakpoint that the code makes of the arc
   pub step_is : FitsSigned w64 a.cost → FitsSigned w64 a.low → FitsSigned w64 a.cap
@@ -157,7 +157,7 @@ pub too_much : (units cost total : ℤ) (steps : List (ℤ × ℤ)) (a : CostArc
     → (FitsSigned w64 (to_z w64 (of_z w64 total) +ℤ to_z w64 (of_z w64 a.cap)) → ⊥)
     → pos (2 ^ 63 - 1) <ℤ costs.capacity (listed One units cost steps ++ a ∷ [])
 too_much units cost total steps a s h f g n =
-    let left = steps_some steps s.rising in
+    let left = steps_some steps s.ascending in
     rw (pushed units cost total steps a s)
     (by_lt_z (pos (2 ^ 63 - 1)) (total +ℤ a.cap) (λ lt. lt)
     (λ le. absurd (n (simp to_z-of_z (fits_some (total +ℤ a.cap) (omega (arith, ints)) le)))))

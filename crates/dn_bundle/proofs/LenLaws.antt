@@ -6,12 +6,12 @@ use Rattle.std.proofs.lemmas.Int.{ints}
 use Rattle.std.proofs.lemmas.List.{length-map}
 use Rattle.dn_arc_theory.specs.declared.arc.CostArc.{CostArc}
 use Rattle.dn_arc_theory.specs.declared.arc.Form.TheVariants.{Two}
-use Rattle.dn_arc_theory.specs.Canonical.{AreRising}
+use Rattle.dn_arc_theory.specs.Canonical.{AreAscending}
 use Rattle.dn_arc_theory.specs.State.Steps.{has_step}
 use Rattle.dn_arc_theory.specs.State.CurveListed.{fixed_arc, step_arc, fixed_arcs, join_arc, listed, IsSound}
 use Rattle.dn_arc_theory.proofs.FormsLaws.{AreAbove, above_lower}
 use Rattle.dn_arc_theory.proofs.StepArcsLaws.{free_arcs}
-use Rattle.dn_arc_theory.proofs.JoinsLaws.{joined_rising}
+use Rattle.dn_arc_theory.proofs.JoinsLaws.{joined_ascending}
 use Rattle.dn_arc_theory.proofs.CanonsLaws.{eq_yes, eq_below, eq_past}
 use Rattle.dn_bundle.proofs.FormLaws.{by_order, join_before, join_past, join_at}
 
@@ -39,7 +39,7 @@ has_other c a (b ∷ rest) h =
     (λ gt. rw (join_past a b rest gt, has_other c a rest h))
 
 -- inserting an arc adds one arc, unless there is one of its cost
-count_join : (a : CostArc) (arcs : List CostArc) → AreRising arcs
+count_join : (a : CostArc) (arcs : List CostArc) → AreAscending arcs
     → length (join_arc a arcs) ≡ length arcs + one_unless (has_arc arcs a.cost)
 count_join a [] r = refl
 count_join a (b ∷ rest) r =
@@ -59,7 +59,7 @@ module _ (units cost total : ℤ) (steps : List (ℤ × ℤ)) (s : IsSound units
   pub len_with_one : (u c : ℤ) (more : ℕ) → fixed_arc u c ∷ [] ≡ fixed_arcs units cost
       → more ≡ one_unless (has_step steps c) → len + more ≡ length (listed Two units cost steps)
   len_with_one u c more e m =
-      let n = count_join (fixed_arc u c) (map step_arc steps) (free_arcs steps s.rising).rising in
+      let n = count_join (fixed_arc u c) (map step_arc steps) (free_arcs steps s.ascending).ascending in
       rw (← e) (omega (arith, n, ap one_unless (has_steps steps c), steps_len, m, len_is))
 
   pub len_with_two : (u c v : ℤ) (more next : ℕ) → fixed_arc u c ∷ fixed_arc v (c +ℤ pos 1) ∷ [] ≡ fixed_arcs units cost
@@ -69,9 +69,9 @@ module _ (units cost total : ℤ) (steps : List (ℤ × ℤ)) (s : IsSound units
       let free = map step_arc steps in
       let a = fixed_arc u c in
       let b = fixed_arc v (c +ℤ pos 1) in
-      let rising = (free_arcs steps s.rising).rising in
-      let inner = count_join b free rising in
-      let outer = count_join a (join_arc b free) (joined_rising b free rising) in
+      let ascending = (free_arcs steps s.ascending).ascending in
+      let inner = count_join b free ascending in
+      let outer = count_join a (join_arc b free) (joined_ascending b free ascending) in
       let h = ap one_unless (has_steps steps (c +ℤ pos 1)) in
       let up : c <ℤ (c +ℤ pos 1) = omega (arith, ints) in
       let g = ap one_unless (has_other c b free up ∙ has_steps steps c) in

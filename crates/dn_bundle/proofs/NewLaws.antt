@@ -72,7 +72,7 @@ module _ (units cost total : ℤ) (steps : List (ℤ × ℤ)) (a : CostArc) (s :
   length_grows : length steps ≤ length next
   length_grows =
       by_lt_z (pos 0) (a.cap -ℤ a.low)
-      (λ lt. rw (test_yes (pos 0) (a.cap -ℤ a.low) lt, length_put steps rest s.rising) (at_least _ (length steps)))
+      (λ lt. rw (test_yes (pos 0) (a.cap -ℤ a.low) lt, length_put steps rest s.ascending) (at_least _ (length steps)))
       (λ le. rw (test_no (pos 0) (a.cap -ℤ a.low) le) (omega arith))
 
   -- if the curve needs memory for the arc, so do the arcs that it lists
@@ -83,12 +83,12 @@ module _ (units cost total : ℤ) (steps : List (ℤ × ℤ)) (a : CostArc) (s :
   needs_more (free room new) =
       let old = entries_listed units cost total steps s in
       let longer : length next ≡ suc (length steps) =
-      rw (test_yes (pos 0) (a.cap -ℤ a.low) room, length_put steps rest s.rising, new) in
+      rw (test_yes (pos 0) (a.cap -ℤ a.low) room, length_put steps rest s.ascending, new) in
       inl (omega (arith, old, entries_next, forced_grows units a.low h.some, longer))
   needs_more (more some low other) =
       let n = none_is units cost total steps s in
-      let l = listed_units units cost steps s.some n s.rising in
-      let f = listed_cost units cost steps s.some n s.rising in
+      let l = listed_units units cost steps s.some n s.ascending in
+      let f = listed_cost units cost steps s.some n s.ascending in
       inr (record { there = rw l some; adds = low; other = rw (f, l) other })
 
 -- units cost more at a higher cost

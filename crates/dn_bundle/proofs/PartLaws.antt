@@ -248,7 +248,7 @@ cost_of_at units cost total steps s x (Some k) c = at_least units cost total ste
 
 module _ (units cost total : ℤ) (steps : List (ℤ × ℤ)) (s : IsSound units cost total steps) where
   at_units : LeastCost (listed One units cost steps) units cost
-  at_units = at_least units cost total steps s units cost (at_start units cost steps s.rising)
+  at_units = at_least units cost total steps s units cost (at_start units cost steps s.ascending)
 
   below_units : (x k : ℤ) → x <ℤ units → LeastCost (listed One units cost steps) x k → ⊥
   below_units x k h l = too_little units cost steps x k h (least_at units cost total steps s x k l)
@@ -289,8 +289,8 @@ module _ (units cost total : ℤ) (steps : List (ℤ × ℤ)) (s : IsSound units
       record {
         some = s.some;
         mean = s.mean;
-        left_rising = s.rising;
-        right_rising = s'.rising;
+        left_ascending = s.ascending;
+        right_ascending = s'.ascending;
         left_most = omega (arith, ints);
         right_most = omega (arith, ints);
       }
@@ -336,7 +336,7 @@ pub step_gap : (units cost total : ℤ) (steps : List (ℤ × ℤ)) → IsSound 
 step_gap units cost total steps s units' cost' total' steps' s' e f =
     let t : IsSound units cost total' steps' = rw (e, f) s' in
     rw (← e, ← f)
-    (parts_by units cost total total' steps steps' s t _ (found units cost steps steps' s.rising t.rising))
+    (parts_by units cost total total' steps steps' s t _ (found units cost steps steps' s.ascending t.ascending))
 
 none_sound : IsSound (pos 0) (pos 0) (pos 0) []
 none_sound = record {
@@ -344,7 +344,7 @@ none_sound = record {
   mean = record { least = omega (arith, ints); greatest = omega (arith, ints) };
   whole = refl;
   most = omega (arith, ints);
-  rising = tt;
+  ascending = tt;
   fit = tt;
 }
 

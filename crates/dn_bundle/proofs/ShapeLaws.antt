@@ -35,7 +35,7 @@ module _ (one : OneCost) (low' : ℕ) (a : CostArc) (total : ℤ) (s : AreSound 
   grown free = record { low = low'; cost = a.cost; free = free }
 
   some_free : pos 0 ≤ℤ one.free
-  some_free = omega (arith, ints, steps_some (steps_of (one_step one.cost one.free) []) s.rising)
+  some_free = omega (arith, ints, steps_some (steps_of (one_step one.cost one.free) []) s.ascending)
 
   -- the free capacity of the arc is added to the breakpoints
   some_put : (room : ℤ) → pos 0 <ℤ room
@@ -136,7 +136,7 @@ module _ (one : OneCost) (units cost : ℤ) (s : AreSound (shape_numbers (plain 
 
   total_fits : FitsSigned w64 (pos one.low +ℤ one.free)
   total_fits =
-      let left = steps_some (steps_of (one_step one.cost one.free) []) s.rising in
+      let left = steps_some (steps_of (one_step one.cost one.free) []) s.ascending in
       fits_some (pos one.low +ℤ one.free) (omega (arith, ints)) s.most
 
   pub made_total : to_z w64 (of_z w64 (to_z w64 (of_z w64 units) +ℤ to_z w64 (of_z w64 one.free)))

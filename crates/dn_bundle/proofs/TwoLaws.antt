@@ -33,8 +33,8 @@ free_grown old new a low some room e = record {
 
 module _ (gap : ℕ) (cost : ℤ) (room : ℤ × ℤ) (a : CostArc) (s : AreSound (free_numbers (two_steps gap cost room)))
     (h : IsCostArc a) where
-  rises : cost <ℤ (cost +ℤ pos gap)
-  rises = s.rising.1.0
+  ascends : cost <ℤ (cost +ℤ pos gap)
+  ascends = s.ascending.1.0
 
   pub first_grown : a.low ≡ pos 0 → pos 0 <ℤ a.cap → a.cost ≡ cost
       → IsGrown (free_numbers (two_steps gap cost room)) a
@@ -49,7 +49,7 @@ module _ (gap : ℕ) (cost : ℤ) (room : ℤ × ℤ) (a : CostArc) (s : AreSoun
   second_grown low some e =
       free_grown _ _ a low some (omega (arith, ints))
       (sym (put_past (cost, room.0) (a.cost, a.cap) ((cost +ℤ pos gap, room.1) ∷ [])
-      (omega (arith, ints, rises)) ∙ ap (λ l. (cost, room.0) ∷ l)
+      (omega (arith, ints, ascends)) ∙ ap (λ l. (cost, room.0) ∷ l)
       (put_at (cost +ℤ pos gap, room.1) (a.cost, a.cap) [] e)))
 
   -- free capacity at a third cost needs memory
@@ -91,12 +91,12 @@ module _ (held : TwoCosts) (a : CostArc) (s : AreSound (shape_numbers (two held)
   first_fits : FitsSigned w64 (held.free.0 +ℤ a.cap)
   first_fits =
       let m = most _ fits in
-      fits_some (held.free.0 +ℤ a.cap) (omega (arith, ints, s.rising.0)) (omega (arith, ints, s.rising.2.0))
+      fits_some (held.free.0 +ℤ a.cap) (omega (arith, ints, s.ascending.0)) (omega (arith, ints, s.ascending.2.0))
 
   second_fits : FitsSigned w64 (held.free.1 +ℤ a.cap)
   second_fits =
       let m = most _ fits in
-      fits_some (held.free.1 +ℤ a.cap) (omega (arith, ints, s.rising.2.0)) (omega (arith, ints, s.rising.0))
+      fits_some (held.free.1 +ℤ a.cap) (omega (arith, ints, s.ascending.2.0)) (omega (arith, ints, s.ascending.0))
 
   module _ (low : of_z w64 a.low ≡ 0) (first : ℤ × ℤ) (e : first ≡ (held.cost, held.free.0))
       (k : FitsSigned w64 first.0) where
@@ -145,7 +145,8 @@ module _ (held : TwoCosts) (s : AreSound (shape_numbers (two held))) (f0 : FitsS
       let e : steps_room (two_steps held.gap held.cost held.free) ≡ held.free.0 +ℤ held.free.1 =
       omega (arith, ints) in
       let f : FitsSigned w64 (held.free.0 +ℤ held.free.1) =
-      fits_some (held.free.0 +ℤ held.free.1) (omega (arith, ints, s.rising.0, s.rising.2.0)) (omega (arith, ints)) in
+      fits_some (held.free.0 +ℤ held.free.1) (omega (arith, ints, s.ascending.0, s.ascending.2.0))
+      (omega (arith, ints)) in
       rw e (simp to_z-of_z)
 
 -- an arc without LOW makes a second cost of one

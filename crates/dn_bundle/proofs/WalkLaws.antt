@@ -40,12 +40,12 @@ module _ (units cost total : ℤ) (steps : List (ℤ × ℤ)) (s : IsSound units
       (x -ℤ forced_units (listed One units cost steps)) ≡ cost +ℤ steps_cost steps (x -ℤ units)
   same_cost x h =
       let n = none_is units cost total steps s in
-      let a = listed_apart units cost steps s.some n s.rising in
-      rw (listed_cost units cost steps s.some n s.rising, listed_units units cost steps s.some n s.rising)
+      let a = listed_apart units cost steps s.some n s.ascending in
+      rw (listed_cost units cost steps s.some n s.ascending, listed_units units cost steps s.some n s.ascending)
       (ap (λ z. cost +ℤ z) (a.fill (x -ℤ units) (omega (arith, ints))))
 
   same_room : free_room (listed One units cost steps) ≡ steps_room steps
-  same_room = (listed_apart units cost steps s.some (none_is units cost total steps s) s.rising).room
+  same_room = (listed_apart units cost steps s.some (none_is units cost total steps s) s.ascending).room
       ∙ steps_free_room steps
 
   -- the least costs of a curve, by its breakpoints
@@ -54,18 +54,18 @@ module _ (units cost total : ℤ) (steps : List (ℤ × ℤ)) (s : IsSound units
       let n = none_is units cost total steps s in
       let f =
       filling_of_least (listed One units cost steps) x k
-      (form_one_ordered _ (listed_one units cost steps s.some n s.rising)) l in
-      let u = listed_units units cost steps s.some n s.rising in
+      (form_one_ordered _ (listed_one units cost steps s.some n s.ascending)) l in
+      let u = listed_units units cost steps s.some n s.ascending in
       let under : units ≤ℤ x = omega (arith, ints) in
       record { low = under; high = omega (arith, ints, same_room); is = f.cost ∙ same_cost x under }
 
   pub at_least : (x k : ℤ) → IsAt units cost steps x k → LeastCost (listed One units cost steps) x k
   at_least x k p =
       let n = none_is units cost total steps s in
-      let u = listed_units units cost steps s.some n s.rising in
+      let u = listed_units units cost steps s.some n s.ascending in
       let r = same_room in
       least_of_filling (listed One units cost steps) x k
-      (form_one_ordered _ (listed_one units cost steps s.some n s.rising))
+      (form_one_ordered _ (listed_one units cost steps s.some n s.ascending))
       (record { low = omega (arith, ints); high = omega (arith, ints); cost = p.is ∙ sym (same_cost x p.low) })
 
 -- the costs beyond the first breakpoint
@@ -116,7 +116,7 @@ pub record IsTaken (units cost : ℤ) (steps : List (ℤ × ℤ)) (x taken spent
   pub some : pos 0 ≤ℤ taken
   pub low : taken ≤ℤ x
   pub mean : IsMean spent taken
-  pub rising : AreSteps rest
+  pub ascending : AreSteps rest
   pub most : (taken +ℤ steps_room rest) ≤ℤ pos (2 ^ 63 - 1)
 
 within : (left room : ℤ) → FitsSigned w64 room → le_z left (to_z w64 (of_z w64 room)) ≡ true → left ≤ℤ room
@@ -145,18 +145,18 @@ module _ (units cost : ℤ) (steps : List (ℤ × ℤ)) (x taken spent : ℤ) (l
       → FitsSigned w128 (spent +ℤ (to_z w64 (of_z w64 (x -ℤ taken)) *ℤ step.0))
   last_fits h =
       let u = last h in
-      let left = steps_some rest here.rising.2 in
+      let left = steps_some rest here.ascending.2 in
       rw left_is
       (more_fits spent (x -ℤ taken) step.0 taken t.some (omega (arith, ints)) (omega (arith, ints)) f0 t.mean)
 
   pub last_is : (r : ℤ) → le_z (to_z w64 (of_z w64 (x -ℤ taken))) (to_z w64 (of_z w64 step.1)) ≡ true
       → r ≡ spent +ℤ (to_z w64 (of_z w64 (x -ℤ taken)) *ℤ step.0) → IsAt units cost steps x r
-  last_is r h v = here.back r (rw (v, left_is) (at_here taken spent step rest x here.rising.2 t.low (last h)))
+  last_is r h v = here.back r (rw (v, left_is) (at_here taken spent step rest x here.ascending.2 t.low (last h)))
 
   pub next_fits : FitsSigned w128 (spent +ℤ (step.1 *ℤ step.0))
   next_fits =
       let h = here in
-      let left = steps_some rest h.rising.2 in
+      let left = steps_some rest h.ascending.2 in
       more_fits spent step.1 step.0 taken t.some (omega (arith, ints)) (omega (arith, ints)) f0 t.mean
 
   pub next : (r : ℤ) → FitsSigned w128 r → le_z (to_z w64 (of_z w64 (x -ℤ taken))) (to_z w64 (of_z w64 step.1)) ≡ false
@@ -165,9 +165,9 @@ module _ (units cost : ℤ) (steps : List (ℤ × ℤ)) (x taken spent : ℤ) (l
       (to_z w128 (of_z w128 r)) rest
   next r fr h v =
       let p = past (x -ℤ taken) step.1 f1 (rw left_is at h) in
-      let some = here.rising.0 in
+      let some = here.ascending.0 in
       let m = here.most in
-      let left = steps_some rest here.rising.2 in
+      let left = steps_some rest here.ascending.2 in
       let over : (taken +ℤ step.1) <ℤ x = omega (arith, ints) in
       let new : IsTaken units cost steps x (taken +ℤ step.1) (spent +ℤ (step.1 *ℤ step.0)) rest = record {
         there = λ k a. at_more taken spent step rest x some over k (here.there k a);
@@ -175,7 +175,7 @@ module _ (units cost : ℤ) (steps : List (ℤ × ℤ)) (x taken spent : ℤ) (l
         some = omega (arith, ints);
         low = omega (arith, ints);
         mean = more_mean spent step.1 step.0 taken t.some (omega (arith, ints)) f0 t.mean;
-        rising = here.rising.2;
+        ascending = here.ascending.2;
         most = omega (arith, ints);
       } in
       let sum = fits_some (taken +ℤ step.1) (omega (arith, ints)) (omega (arith, ints)) in

@@ -155,8 +155,7 @@ impl Steps {
         (self.rest.len() as u64).saturating_add(self.few.len() as u64)
     }
 
-    /// Reads a number of the first breakpoint, and one behind the last of the few. This has no contract, because it
-    /// affects only the speed.
+    /// Reads a number of the first breakpoint, and one behind the last of the few. Hint.
     #[inline(always)]
     pub(crate) fn touch(&self) -> i64 {
         let len = self.few.len() as i64;

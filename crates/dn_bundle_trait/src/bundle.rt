@@ -87,7 +87,7 @@ pub trait Bundle: Sized + Drop {
         ensures listed { IfSome result (Contains (bundle.listed form self.now)) };
 
     /// Reads a number of the bundle that lies in memory of its own, or returns 0 if there is none, so that a later call
-    /// does not wait for this memory. This has no contract, because it affects only the speed.
+    /// does not wait for this memory. Hint.
     fn touch(&self) -> i64;
 
     /// The laws of the kind of arcs.

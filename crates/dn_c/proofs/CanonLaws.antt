@@ -18,15 +18,15 @@ use Rattle.dn_instance.proofs.ValidLaws.{reads_valid, some_is}
 use Rattle.dn_canon.specs.CanonInstances.{IsCanonInstanceOf}
 use Rattle.dn_canon.specs.State.ListedArcs.{listed_arcs, listed_graph}
 use Rattle.dn_canon.proofs.ListedLaws.{listed_canon, min_canon, max_canon}
-use Rattle.dn_c.specs.State.CanonCopies.{Call, Walks, copied, first_place, GivesOut}
+use Rattle.dn_c.specs.State.CanonCopies.{Call, Walks, copied, first_cursor, GivesOut}
 use Rattle.dn_c.specs.State.Items.{flow_item, point_item, id_item, pair_item}
 use Rattle.dn_c.specs.State.Outputs.{CopiesNone, CountsListed}
 use Rattle.dn_c.specs.State.Statuses.{wrong_count}
-use Rattle.dn_c.specs.State.Places.{cost_at, cap_at, length_at}
+use Rattle.dn_c.specs.State.Cursors.{cost_at, cap_at, length_at}
 use Rattle.dn_c.specs.State.Rows.{rows_by}
 use Rattle.dn_c.specs.State.Walks.{CopiesFrom, IsLeftAfter}
 use Rattle.dn_c.specs.declared.arcs.Arc.{Arc}
-use Rattle.dn_c.specs.declared.place.Place.{Place}
+use Rattle.dn_c.specs.declared.cursor.Cursor.{Cursor}
 use Rattle.dn_c.specs.declared.status.Count.{Count}
 use Rattle.dn_c.proofs.WalkLaws.{begins}
 
@@ -43,49 +43,49 @@ module _ {A : Type 0} where
   all_taken (suc n) [] few = refl
   all_taken (suc n) (x ∷ xs) few = ap (λ l. x ∷ l) (all_taken n xs (omega (arith, few)))
 
-module _ {B A : Type 0} (numbers : A → List ℤ) (lists : B → List A) (arc : Place → A) (table : Bundles B) where
-  -- the call copies arcs of the table after the place
-  abbrev Copies : Place → Call → Type 0
-  Copies place call =
-      CopiesFrom numbers lists arc table place call.place (length call.old) call.new call.result
+module _ {B A : Type 0} (numbers : A → List ℤ) (lists : B → List A) (arc : Cursor → A) (table : Bundles B) where
+  -- the call copies arcs of the table after the cursor
+  abbrev Copies : Cursor → Call → Type 0
+  Copies cursor call =
+      CopiesFrom numbers lists arc table cursor call.cursor (length call.old) call.new call.result
 
-  abbrev Left : Place → List Arc → Type 0
+  abbrev Left : Cursor → List Arc → Type 0
   Left = IsLeftAfter numbers lists arc table
 
-  first_rows : (rows : List Arc) (place : Place) (call : Call) → Left place rows → Copies place call
+  first_rows : (rows : List Arc) (cursor : Cursor) (call : Call) → Left cursor rows → Copies cursor call
       → copied call ≡ take (length call.old) rows
-  first_rows rows place call left c =
+  first_rows rows cursor call left c =
       let got = c.1 rows left in ap (λ n. take n call.new) got.1 ∙ got.0
 
-  -- a walk copies what is left after its first place
-  walk_copies : (rows : List Arc) (place : Place) (calls : List Call) → Left place rows → Walks Copies place calls
+  -- a walk copies what is left after its first cursor
+  walk_copies : (rows : List Arc) (cursor : Cursor) (calls : List Call) → Left cursor rows → Walks Copies cursor calls
       → flat_map copied calls ≡ rows
-  walk_copies rows place [] left w = absurd w
-  walk_copies rows place (call ∷ []) left w =
+  walk_copies rows cursor [] left w = absurd w
+  walk_copies rows cursor (call ∷ []) left w =
       let got = w.0.1 rows left in
-      append-nil (copied call) ∙ first_rows rows place call left w.0
+      append-nil (copied call) ∙ first_rows rows cursor call left w.0
       ∙ all_taken (length call.old) rows (omega (arith, got.1, w.1))
-  walk_copies rows place (call ∷ next ∷ rest) left w =
+  walk_copies rows cursor (call ∷ next ∷ rest) left w =
       let got = w.0.1 rows left in
-      ap (λ l. copied call ++ l) (walk_copies (drop call.result.count rows) call.place (next ∷ rest) got.2 w.1)
-      ∙ ap (λ l. l ++ drop call.result.count rows) (first_rows rows place call left w.0)
+      ap (λ l. copied call ++ l) (walk_copies (drop call.result.count rows) call.cursor (next ∷ rest) got.2 w.1)
+      ∙ ap (λ l. l ++ drop call.result.count rows) (first_rows rows cursor call left w.0)
       ∙ ap (λ n. take (length call.old) rows ++ drop n rows) got.1 ∙ whole (length call.old) rows
 
-  walk_first : (calls : List Call) → Walks Copies first_place calls
+  walk_first : (calls : List Call) → Walks Copies first_cursor calls
       → flat_map copied calls ≡ rows_by numbers (listed_arcs lists table)
-  walk_first calls w = walk_copies _ first_place calls (begins numbers lists arc table) w
+  walk_first calls w = walk_copies _ first_cursor calls (begins numbers lists arc table) w
 
 -- calls on a companion copy no arcs
-abbrev CopiesNothing : Place → Call → Type 0
-CopiesNothing place call = CopiesNone place call.place call.old call.new call.result
+abbrev CopiesNothing : Cursor → Call → Type 0
+CopiesNothing cursor call = CopiesNone cursor call.cursor call.old call.new call.result
 
-none_copied : (place : Place) (calls : List Call) → Walks CopiesNothing place calls → flat_map copied calls ≡ []
-none_copied place [] w = absurd w
-none_copied place (call ∷ []) w =
+none_copied : (cursor : Cursor) (calls : List Call) → Walks CopiesNothing cursor calls → flat_map copied calls ≡ []
+none_copied cursor [] w = absurd w
+none_copied cursor (call ∷ []) w =
     ap (λ (r : Count). take r.count call.new ++ []) w.0.0
-none_copied place (call ∷ next ∷ rest) w =
+none_copied cursor (call ∷ next ∷ rest) w =
     ap (λ (r : Count). take r.count call.new ++ flat_map copied (next ∷ rest)) w.0.0
-    ∙ none_copied call.place (next ∷ rest) w.1
+    ∙ none_copied call.cursor (next ∷ rest) w.1
 
 -- the number of listed arcs is that of their rows
 counted : {B A : Type 0} (numbers : A → List ℤ) (lists : B → List A) (table : Bundles B) (result : Count)
@@ -110,7 +110,7 @@ module _ (form : Form) where
     min_canon form supplies G _ (listed_canon cost_kind curve_arcs
         (λ f b. sound_canonical b.units b.cost b.total b.steps b.sound f)
         (λ b. sound_same b.units b.cost b.total b.steps b.sound)
-        (λ f b. sound_fit b.units b.cost b.total b.steps b.sound f) form G.nodes table G refl s.1.rising
+        (λ f b. sound_fit b.units b.cost b.total b.steps b.sound f) form G.nodes table G refl s.1.ascending
         s.1.lists_them.stands valid.0) valid.1,
     record {
       first = begins costs.numbers (curve_arcs form) cost_at table;
@@ -123,7 +123,7 @@ module _ (form : Form) where
     MaxFlow a b (listed_graph total_arcs G.nodes table),
     max_canon form a b G _ (listed_canon total_kind (λ f. total_arcs) (λ f b. total_canonical b.total b.some)
         (λ b. total_kind.meaning.same_refl (total_arcs b)) (λ f b. total_fit b.total b.some b.most) form G.nodes table G
-        refl s.2.rising s.2.lists_them.stands valid.0) valid.1,
+        refl s.2.ascending s.2.lists_them.stands valid.0) valid.1,
     record {
       first = begins capacities.numbers total_arcs cap_at table;
       walk = walk_first capacities.numbers total_arcs cap_at table;
@@ -134,7 +134,7 @@ module _ (form : Form) where
   by_contents (OfSp table) (ShortestPaths G) valid s =
       let canon = listed_canon length_kind (λ f. least_arcs) (λ f b. length_canonical b.length)
       (λ b. length_kind.meaning.same_refl (least_arcs b)) (λ f b. length_fit b.length b.fits) form G.nodes table G refl
-      s.rising s.lists_them.stands valid in (
+      s.ascending s.lists_them.stands valid in (
         ShortestPaths (listed_graph least_arcs G.nodes table),
         record { valid = canon.valid; canonical = canon.canonical; same = canon.same },
         record {
@@ -147,17 +147,17 @@ module _ (form : Form) where
   by_contents (OfSs ids) (Sources items) valid s = (
     Sources items,
     record { valid = valid; canonical = tt; same = refl_of (Sources items) },
-    record { first = refl; walk = none_copied first_place; count = none_counted; items = ap (map id_item) s },
+    record { first = refl; walk = none_copied first_cursor; count = none_counted; items = ap (map id_item) s },
   )
   by_contents (OfP2p pairs) (Queries items) valid s = (
     Queries items,
     record { valid = valid; canonical = tt; same = refl_of (Queries items) },
-    record { first = refl; walk = none_copied first_place; count = none_counted; items = ap (map pair_item) s },
+    record { first = refl; walk = none_copied first_cursor; count = none_counted; items = ap (map pair_item) s },
   )
   by_contents (OfCo points) (Coordinates items) valid s = (
     Coordinates items,
     record { valid = valid; canonical = tt; same = refl_of (Coordinates items) },
-    record { first = refl; walk = none_copied first_place; count = none_counted; items = ap (map point_item) s },
+    record { first = refl; walk = none_copied first_cursor; count = none_counted; items = ap (map point_item) s },
   )
   by_contents (OfMin flows table) _ valid s = absurd s
   by_contents (OfMax source sink table) _ valid s = absurd s

@@ -4,11 +4,11 @@ use Rattle.dn_canon.specs.State.ListedArcs.{placed, listed_arcs}
 use Rattle.dn_canon.proofs.LineLaws.{drop_get}
 use Rattle.std.proofs.lemmas.List.{length-map, get_or-map, map-append, take-map, drop-map, take_more_set}
 use Rattle.std.proofs.lemmas.List.Elements.{All-nil, All-push, Contains-append_left, Contains-append_right}
-use Rattle.dn_c.specs.State.Places.{last_before, place_after, place_with}
+use Rattle.dn_c.specs.State.Cursors.{last_before, cursor_after, cursor_with}
 use Rattle.dn_c.specs.State.Walks.{CopiesFrom, CopiesListed, Fills, HasRows, IsNextArc, IsLeft, IsLeftAfter}
 use Rattle.dn_c.specs.State.Rows.{row_of, rows_by}
 use Rattle.dn_c.specs.declared.arcs.Arc.{Arc}
-use Rattle.dn_c.specs.declared.place.Place.{Place}
+use Rattle.dn_c.specs.declared.cursor.Cursor.{Cursor}
 use Rattle.dn_c.specs.declared.status.Count.{Count}
 use Rattle.dn_c.specs.State.Statuses.{fine_count}
 use Rattle.std.proofs.Common.{subst}
@@ -109,20 +109,20 @@ has_one_more out done at x long low h =
     ∙ take_more_set out at x low ∙ ap (λ l. l ++ x ∷ []) (ap (λ n. take n out) (sym long) ∙ h)
 
 -- what is left by arcs is left by rows
-module _ {B A : Type 0} (numbers : A → List ℤ) (lists : B → List A) (arc : Place → A)
-    (keeps : (index : ℕ) (x : A) → arc (place_with index (numbers x)) ≡ x)
+module _ {B A : Type 0} (numbers : A → List ℤ) (lists : B → List A) (arc : Cursor → A)
+    (keeps : (index : ℕ) (x : A) → arc (cursor_with index (numbers x)) ≡ x)
     (table : List ((ℤ × ℤ) × B)) where
-  -- a place has what it was made of
-  last_back : (index : ℕ) (taken : Option A) → last_before arc (place_after numbers index taken) ≡ taken
+  -- a cursor has what it was made of
+  last_back : (index : ℕ) (taken : Option A) → last_before arc (cursor_after numbers index taken) ≡ taken
   last_back index None = refl
   last_back index (Some x) = ap Some (keeps index x)
 
-  pairs_back : (index : ℕ) (taken : Option A) → (place_after numbers index taken).pairs ≡ index
+  pairs_back : (index : ℕ) (taken : Option A) → (cursor_after numbers index taken).pairs ≡ index
   pairs_back index None = refl
   pairs_back index (Some x) = refl
 
-  pub copies_from : (old new : Place) (room : ℕ) (out : List Arc) (n next : ℕ) (last taken : Option A)
-      (result : Count) → last ≡ last_before arc old → new ≡ place_after numbers next taken → result ≡ fine_count n
+  pub copies_from : (old new : Cursor) (room : ℕ) (out : List Arc) (n next : ℕ) (last taken : Option A)
+      (result : Count) → last ≡ last_before arc old → new ≡ cursor_after numbers next taken → result ≡ fine_count n
       → Fills numbers lists table old.pairs last room out n next taken → CopiesListed numbers lists table out n
       → CopiesFrom numbers lists arc table old new room out result
   copies_from old new room out n next last taken result was is fine f listed =
@@ -138,7 +138,7 @@ module _ {B A : Type 0} (numbers : A → List ℤ) (lists : B → List A) (arc :
               got.1 ∙ sym (length-map (take room left) row) ∙ ap length same,
               (
                 drop n left,
-                subst (λ k. IsLeft lists (drop k table) (last_before arc (place_after numbers next taken))
+                subst (λ k. IsLeft lists (drop k table) (last_before arc (cursor_after numbers next taken))
                     (drop n left))
                     (sym (pairs_back next taken))
                     (subst (λ t. IsLeft lists (drop next table) t (drop n left)) (sym (last_back next taken)) got.2),
@@ -148,8 +148,8 @@ module _ {B A : Type 0} (numbers : A → List ℤ) (lists : B → List A) (arc :
         listed,
       )
 
--- all zeros is the place before all arcs: there all canonical arcs of the instance are left
-pub begins : {B A : Type 0} (numbers : A → List ℤ) (lists : B → List A) (arc : Place → A) (table : List ((ℤ × ℤ) × B))
+-- all zeros is the cursor before all arcs: there all canonical arcs of the instance are left
+pub begins : {B A : Type 0} (numbers : A → List ℤ) (lists : B → List A) (arc : Cursor → A) (table : List ((ℤ × ℤ) × B))
     → IsLeftAfter numbers lists arc table (record { pairs = 0; within = 0; a = pos 0; b = pos 0; c = pos 0 })
     (rows_by numbers (listed_arcs lists table))
 begins numbers lists arc table = (listed_arcs lists table, refl, refl)

@@ -1,6 +1,6 @@
 pub mod Reads
 pub mod Rows
-pub mod Places
+pub mod Cursors
 pub mod Facts
 pub mod Differences
 pub mod Fits

@@ -1,6 +1,6 @@
 // The first difference between two instances, as C has it.
 ghost use Rattle.std.specs.Prelude.{◌≡◌, pos, Some};
-ghost use Rattle.dn_c.specs.State.Differences.{ComparesWorks, DiffersAs, IsValue, OfWhole, PairDiffers, TellsVerdict};
+ghost use Rattle.dn_c.specs.State.Differences.{ComparesWorks, DiffersAs, IsWideNumber, OfWhole, PairDiffers, TellsVerdict};
 ghost use Rattle.dn_c.specs.State.Reads.{shown_work};
 
 use crate::facts::kind_number;
@@ -13,7 +13,7 @@ use dn_instance::Verdict;
 /// A whole number of 128 bits: `high` times 2^64, and `low`. All is 0 if there is no number.
 #[repr(C)]
 #[derive(Clone, Copy, Drop)]
-pub struct Value {
+pub struct WideNumber {
     pub known: bool,
     pub high: i64,
     pub low: u64,
@@ -37,22 +37,22 @@ pub struct Difference {
     pub amount: i64,
     /// The value of the left instance: the number of its kind, NODES, a flow, the source or the sink, the least length,
     /// the capacity or the least cost of the amount, or the number of items.
-    pub left: Value,
+    pub left: WideNumber,
     /// The value of the right instance.
-    pub right: Value,
+    pub right: WideNumber,
 }
 
 // Returns a number in two halves.
-fn halves(number: Option<i128>) -> Value
-    ensures { IsValue number result }
+fn halves(number: Option<i128>) -> WideNumber
+    ensures { IsWideNumber number result }
 {
     match number {
-        Some(n) => Value {
+        Some(n) => WideNumber {
             known: true,
             high: n.div_euclid(18446744073709551616) as i64,
             low: n.rem_euclid(18446744073709551616) as u64,
         },
-        None => Value {
+        None => WideNumber {
             known: false,
             high: 0,
             low: 0,

@@ -13,6 +13,7 @@ ghost use Rattle.dn_c.specs.State.Reads.{read_at, alive_at, shown_work};
 ghost use Rattle.dn_c.specs.State.Works.{work_of, BeginsReader, OnWork, Feeds, Finishes};
 
 use crate::arcs::Arc;
+use crate::cursor::Cursor;
 use crate::difference::{Difference, parting};
 use crate::facts::{Facts, tell};
 use crate::fits::{Fit, judge};
@@ -20,7 +21,6 @@ use crate::handle::Handle;
 use crate::items::Item;
 use crate::lines::{Lines, lines_of, no_lines};
 use crate::outputs::{arc_count, canon_into, items, next_arcs, text};
-use crate::place::Place;
 use crate::shown::Shown;
 use crate::status::{Count, Status, fine, refused_with, wrong_call, wrong_count};
 use crate::store::store;
@@ -197,9 +197,9 @@ pub unsafe extern "C" fn dnorm_arc_count(handle: *const u8, form: u8) -> Count
     arc_count(&*(handle as *const Shown), form)
 }
 
-/// Copies the canonical arcs of the instance in a form (1 or 2) after the place, as far as there is room, in the order
-/// of the canonical text, and moves the place behind them. Returns how many it copied. Where it copied fewer than there
-/// was room for, none are left.
+/// Copies the canonical arcs of the instance in a form (1 or 2) after the cursor, as far as there is room, in the order
+/// of the canonical text, and moves the cursor behind them. Returns how many it copied. Where it copied fewer than
+/// there was room for, none are left.
 ///
 /// # Errors
 ///
@@ -208,16 +208,16 @@ pub unsafe extern "C" fn dnorm_arc_count(handle: *const u8, form: u8) -> Count
 pub unsafe extern "C" fn dnorm_next(
     handle: *const u8,
     form: u8,
-    place: &mut Place,
+    cursor: &mut Cursor,
     out: &mut [Arc],
 ) -> Count
     ghost g: { (Lft × Share) × Shown }
     requires* { sem 𝓛 (read_at g.0 handle g.1) }
     ensures* alive { sem 𝓛 (alive_at g.0) }
-    ensures copies { CopiesHeld (shown_work g.1) form place.old place.new out.old out.new result }
+    ensures copies { CopiesHeld (shown_work g.1) form cursor.old cursor.new out.old out.new result }
     ensures fits { result.count ≤ length out.new }
 {
-    next_arcs(&*(handle as *const Shown), form, place, out)
+    next_arcs(&*(handle as *const Shown), form, cursor, out)
 }
 
 /// Puts the canonical text of the instance in a form (1 or 2) into `into`, a handle that holds nothing. It then owns
@@ -264,8 +264,9 @@ pub extern "C" fn dnorm_text(
     }
 }
 
-/// Copies what the instance holds beside its arcs after the place, as far as there is room, and moves the place behind
-/// it: the flows that are not 0 by ascending node, the source with the sink, or the items or points of a companion.
+/// Copies what the instance holds beside its arcs after the cursor, as far as there is room, and moves the cursor
+/// behind it: the flows that are not 0 by ascending node, the source with the sink, or the items or points of a
+/// companion.
 /// Returns how many it copied. Where it copied fewer than there was room for, none are left.
 ///
 /// # Errors
@@ -274,16 +275,16 @@ pub extern "C" fn dnorm_text(
 #[unsafe(no_mangle)]
 pub unsafe extern "C" fn dnorm_items(
     handle: *const u8,
-    place: &mut Place,
+    cursor: &mut Cursor,
     out: &mut [Item],
 ) -> Count
     ghost g: { (Lft × Share) × Shown }
     requires* { sem 𝓛 (read_at g.0 handle g.1) }
     ensures* alive { sem 𝓛 (alive_at g.0) }
-    ensures copies { CopiesItems (shown_work g.1) place.old place.new out.old out.new result }
+    ensures copies { CopiesItems (shown_work g.1) cursor.old cursor.new out.old out.new result }
     ensures fits { result.count ≤ length out.new }
 {
-    items(&*(handle as *const Shown), place, out)
+    items(&*(handle as *const Shown), cursor, out)
 }
 
 /// Returns where two instances first differ. Both handles keep theirs.

@@ -2,7 +2,7 @@
 ghost use Rattle.std.specs.Prelude.{◌≡◌, Bool, Some, None, is_some};
 ghost use Rattle.std.specs.Option.{option_map};
 
-use crate::seal::{Parts, Seal, nowhere};
+use crate::seal::{BoxParts, Seal, nowhere};
 use crate::work::Work;
 use std::alloc::Global;
 use std::marker::Send;
@@ -33,7 +33,7 @@ impl Handle {
         ensures { result.seal.work ≡ Some work.value }
     {
         Handle {
-            seal: Seal::of(Parts::of(work)),
+            seal: Seal::of(BoxParts::of(work)),
             full: true,
         }
     }

@@ -1,10 +1,10 @@
 // Copies what an instance holds beside its arcs: flows, source and sink, items and points.
 ghost use Rattle.std.specs.Prelude.{◌≡◌, ◌≤◌, ◌<◌, ◌^◌, [], ◌∷◌, MatchOption, length, take, drop};
 ghost use Rattle.dn_instance.specs.State.Helds.{Contents};
-ghost use Rattle.dn_nodes.specs.State.Nodes.{Rises};
+ghost use Rattle.dn_nodes.specs.State.Nodes.{Ascends};
 ghost use Rattle.dn_c.specs.State.Items.{items_left, left_items, nodes_left, IsListed};
 
-use crate::place::Place;
+use crate::cursor::Cursor;
 use dn_instance::{Held, View};
 use dn_nodes::{NodeMap, Nodes};
 
@@ -24,7 +24,7 @@ fn item_of(id: i64, a: i64, b: i64) -> Item
     Item { id, a, b }
 }
 
-// The items of an instance that are left from some place on.
+// The items of an instance that are left from some cursor on.
 #[derive(Drop)]
 pub(crate) enum ItemsLeft<'a> {
     Flows(Nodes<'a, i64>),
@@ -34,44 +34,44 @@ pub(crate) enum ItemsLeft<'a> {
     Terminals(Option<(i64, i64)>),
 }
 
-// Returns the nodes of a map that are left after a place.
-fn nodes_after<'a, V: Drop>(map: &'a NodeMap<V>, place: &Place) -> Nodes<'a, V>
-    ensures left { result ≡ nodes_left place.now map.now.entries }
-    ensures rising { Rises map.now.entries }
+// Returns the nodes of a map that are left after a cursor.
+fn nodes_after<'a, V: Drop>(map: &'a NodeMap<V>, cursor: &Cursor) -> Nodes<'a, V>
+    ensures left { result ≡ nodes_left cursor.now map.now.entries }
+    ensures ascending { Ascends map.now.entries }
 {
-    if place.within == 0 {
+    if cursor.within == 0 {
         map.iter()
     } else {
-        map.after(&place.a)
+        map.after(&cursor.a)
     }
 }
 
-// Returns the elements of a list that are left after a place.
-fn list_after<'a, T>(list: &'a [T], place: &Place) -> &'a [T]
-    ensures left { result.now ≡ drop place.now.pairs list.now }
+// Returns the elements of a list that are left after a cursor.
+fn list_after<'a, T>(list: &'a [T], cursor: &Cursor) -> &'a [T]
+    ensures left { result.now ≡ drop cursor.now.pairs list.now }
     ensures short { length list.now < 2 ^ 64 }
 {
-    if list.len() <= place.pairs {
+    if list.len() <= cursor.pairs {
         return &[];
     }
-    &list[place.pairs..]
+    &list[cursor.pairs..]
 }
 
 impl<'a> ItemsLeft<'a> {
-    // Returns the items of a parsed instance that are left after a place.
-    pub(crate) fn of(held: &'a Held, place: &Place) -> ItemsLeft<'a>
-        ensures left { items_left result ≡ left_items held.now.contents place.now }
+    // Returns the items of a parsed instance that are left after a cursor.
+    pub(crate) fn of(held: &'a Held, cursor: &Cursor) -> ItemsLeft<'a>
+        ensures left { items_left result ≡ left_items held.now.contents cursor.now }
         ensures listed { IsListed held.now.contents }
     {
         match held.view() {
-            View::Min { supplies, .. } => ItemsLeft::Flows(nodes_after(supplies, place)),
-            View::Max { source, sink, .. } if place.pairs == 0 => {
+            View::Min { supplies, .. } => ItemsLeft::Flows(nodes_after(supplies, cursor)),
+            View::Max { source, sink, .. } if cursor.pairs == 0 => {
                 ItemsLeft::Terminals(Some((source, sink)))
             }
             View::Max { .. } | View::Sp { .. } => ItemsLeft::Terminals(None),
-            View::Ss { items } => ItemsLeft::Ids(list_after(items, place)),
-            View::P2p { items } => ItemsLeft::Pairs(list_after(items, place)),
-            View::Co { points } => ItemsLeft::Points(nodes_after(points, place)),
+            View::Ss { items } => ItemsLeft::Ids(list_after(items, cursor)),
+            View::P2p { items } => ItemsLeft::Pairs(list_after(items, cursor)),
+            View::Co { points } => ItemsLeft::Points(nodes_after(points, cursor)),
         }
     }
 
@@ -86,7 +86,7 @@ impl<'a> ItemsLeft<'a> {
                 None => None,
             },
             ItemsLeft::Points(nodes) => match nodes.next() {
-                Some((id, place)) => Some(item_of(id, place.0, place.1)),
+                Some((id, point)) => Some(item_of(id, point.0, point.1)),
                 None => None,
             },
             ItemsLeft::Ids(ids) => {
@@ -106,20 +106,20 @@ impl<'a> ItemsLeft<'a> {
         }
     }
 
-    // Copies the items, as far as there is room, and moves the place, after which they are left, behind them. Returns
+    // Copies the items, as far as there is room, and moves the cursor, after which they are left, behind them. Returns
     // how many it copied.
-    pub(crate) fn put(mut self, place: &mut Place, out: &mut [Item]) -> usize
+    pub(crate) fn put(mut self, cursor: &mut Cursor, out: &mut [Item]) -> usize
         ensures copies { take result out.new ≡ take (length out.old) (items_left self.entry) }
         ensures fits { result ≤ length out.new }
         ensures behind { (contents : Contents) → IsListed contents
-            → items_left self.entry ≡ left_items contents place.old
-            → left_items contents place.new ≡ drop result (items_left self.entry) }
+            → items_left self.entry ≡ left_items contents cursor.old
+            → left_items contents cursor.new ≡ drop result (items_left self.entry) }
     {
         let room = out.len();
         for at in 0..room {
             match self.next() {
                 Some(item) => {
-                    *place = place.behind(&item.id);
+                    *cursor = cursor.behind(&item.id);
                     out[at] = item;
                 }
                 None => return at,

@@ -3,13 +3,14 @@
 //!
 //! `exports` has the functions that C calls, over a `handle`, which owns a `work`: a reader, a parsed instance, a
 //! refusal, a text, or a reader of arc lines. `seal` keeps a work behind a pointer, and `shown` lends it to calls that
-//! only read it. `status` is what a call returns. `walk` goes over canonical `arcs` from any `place` on, and `next`
+//! only read it. `status` is what a call returns. `walk` goes over canonical `arcs` from any `cursor` on, and `next`
 //! copies them. `facts`, `items` and `outputs` copy the rest out, `lines` hands out arc lines, and `store` puts a new
 //! work into a handle. `difference` compares two instances, and `fits` a companion with its graph. C may call them in
 //! any order: a call that a handle is not for changes nothing and says so.
 #![tactic(auto)]
 
 mod arcs;
+pub mod cursor;
 mod difference;
 pub mod exports;
 mod facts;
@@ -20,7 +21,6 @@ pub mod laws;
 mod lines;
 mod next;
 mod outputs;
-pub mod place;
 mod seal;
 pub mod shown;
 pub mod status;

@@ -3,7 +3,7 @@ ghost use Rattle.std.specs.Prelude.{◌≤◌, length};
 ghost use Rattle.dn_c.specs.State.Walks.{CopiesFrom, CopiesListed, Fills};
 
 use crate::arcs::{Arc, row};
-use crate::place::{Kept, Place, last_before, place_after};
+use crate::cursor::{Cursor, Kept, cursor_after, last_before};
 use crate::status::{Count, fine_count};
 use crate::walk::step;
 use dn_bundle::{Bundle, Form};
@@ -39,19 +39,19 @@ fn put_rows<B: Bundle>(
     (room, (spot, taken))
 }
 
-/// Copies the canonical arcs of a table after the place, as far as there is room, and moves the place behind them.
+/// Copies the canonical arcs of a table after the cursor, as far as there is room, and moves the cursor behind them.
 /// Returns how many it copied.
 pub(crate) fn put_next<B: Kept>(
     table: &Table<B>,
     form: Form,
-    place: &mut Place,
+    cursor: &mut Cursor,
     out: &mut [Arc],
 ) -> Count
-    ensures copies { CopiesFrom B.Arc.numbers (B.bundle.listed form) B.arc_at table.now place.old place.new
+    ensures copies { CopiesFrom B.Arc.numbers (B.bundle.listed form) B.arc_at table.now cursor.old cursor.new
         (length out.old) out.new result }
     ensures fits { result.count ≤ length out.new }
 {
-    let put = put_rows(table, form, place.pairs, last_before::<B>(place), out);
-    *place = place_after(put.1.0, &put.1.1);
+    let put = put_rows(table, form, cursor.pairs, last_before::<B>(cursor), out);
+    *cursor = cursor_after(put.1.0, &put.1.1);
     fine_count(put.0)
 }

@@ -5,10 +5,10 @@ ghost use Rattle.dn_c.specs.State.Outputs.{count_if, form_numbered, CopiesGraph,
 ghost use Rattle.dn_c.specs.State.Reads.{shown_work};
 
 use crate::arcs::Arc;
+use crate::cursor::Cursor;
 use crate::handle::Handle;
 use crate::items::{Item, ItemsLeft};
 use crate::next::put_next;
-use crate::place::Place;
 use crate::shown::Shown;
 use crate::status::{Count, Status, fine_count, refused_with, wrong_call, wrong_count};
 use crate::store::store;
@@ -24,27 +24,27 @@ fn form_numbered(form: u8) -> Form
     if form == 2 { Form::Two } else { Form::One }
 }
 
-/// Copies the canonical arcs of the instance after the place, as far as there is room, and moves the place behind them.
-/// Returns how many it copied.
-pub fn next_arcs(handle: &Shown, form: u8, place: &mut Place, out: &mut [Arc]) -> Count
-    ensures copies { CopiesHeld (shown_work handle.now) form place.old place.new out.old out.new result }
+/// Copies the canonical arcs of the instance after the cursor, as far as there is room, and moves the cursor behind
+/// them. Returns how many it copied.
+pub fn next_arcs(handle: &Shown, form: u8, cursor: &mut Cursor, out: &mut [Arc]) -> Count
+    ensures copies { CopiesHeld (shown_work handle.now) form cursor.old cursor.new out.old out.new result }
     ensures fits { result.count ≤ length out.new }
 {
     match handle.get() {
-        Some(Work::Read(held, _)) => next_of(held, form_numbered(form), place, out),
+        Some(Work::Read(held, _)) => next_of(held, form_numbered(form), cursor, out),
         _ => wrong_count(),
     }
 }
 
-// Copies the canonical arcs of a parsed instance after the place.
-fn next_of(held: &Held, form: Form, place: &mut Place, out: &mut [Arc]) -> Count
-    ensures copies { CopiesGraph form held.now.contents place.old place.new out.old out.new result }
+// Copies the canonical arcs of a parsed instance after the cursor.
+fn next_of(held: &Held, form: Form, cursor: &mut Cursor, out: &mut [Arc]) -> Count
+    ensures copies { CopiesGraph form held.now.contents cursor.old cursor.new out.old out.new result }
     ensures fits { result.count ≤ length out.new }
 {
     match held.view() {
-        View::Min { table, .. } => put_next(table, form, place, out),
-        View::Max { table, .. } => put_next(table, form, place, out),
-        View::Sp { table } => put_next(table, form, place, out),
+        View::Min { table, .. } => put_next(table, form, cursor, out),
+        View::Max { table, .. } => put_next(table, form, cursor, out),
+        View::Sp { table } => put_next(table, form, cursor, out),
         _ => wrong_count(),
     }
 }
@@ -109,14 +109,14 @@ fn copy_from(bytes: &[u8], from: usize, out: &mut [u8]) -> usize
     n
 }
 
-/// Copies what the instance holds beside its arcs after the place, as far as there is room, and moves the place behind
-/// it. Returns how many items it copied.
-pub fn items(handle: &Shown, place: &mut Place, out: &mut [Item]) -> Count
-    ensures copies { CopiesItems (shown_work handle.now) place.old place.new out.old out.new result }
+/// Copies what the instance holds beside its arcs after the cursor, as far as there is room, and moves the cursor
+/// behind it. Returns how many items it copied.
+pub fn items(handle: &Shown, cursor: &mut Cursor, out: &mut [Item]) -> Count
+    ensures copies { CopiesItems (shown_work handle.now) cursor.old cursor.new out.old out.new result }
     ensures fits { result.count ≤ length out.new }
 {
     match handle.get() {
-        Some(Work::Read(held, _)) => fine_count(ItemsLeft::of(held, place).put(place, out)),
+        Some(Work::Read(held, _)) => fine_count(ItemsLeft::of(held, cursor).put(cursor, out)),
         _ => wrong_count(),
     }
 }

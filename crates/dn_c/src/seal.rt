@@ -4,10 +4,10 @@ ghost use denote.RawPtr.{null_ptr};
 ghost use Rattle.dn_c.specs.declared.work.Work.{Work};
 ghost use Rattle.dn_c.specs.State.Sealed.{work_coded, seal_owns};
 
-mod parts;
+mod box_parts;
 
 use crate::work::Work;
-pub(crate) use parts::Parts;
+pub(crate) use box_parts::BoxParts;
 use std::alloc::Global;
 use std::marker::{Model, Send};
 use std::ptr::null_mut;
@@ -37,21 +37,21 @@ impl Seal {
 
     /// Returns a seal that owns the work of these parts. The pointer loses its type, since no type that C sees may
     /// reach a number of 128 bits, as a work does.
-    pub fn of(parts: Parts<Work, Global>) -> Seal
+    pub fn of(parts: BoxParts<Work, Global>) -> Seal
         ensures { result.work ≡ Some parts.value }
     {
-        let Parts { ptr, alloc: _alloc } = parts;
+        let BoxParts { ptr, alloc: _alloc } = parts;
         let ptr = ptr as *mut u8;
         Seal { ptr }
     }
 
     /// Returns the parts of the work. The pointer gets its type back.
-    pub fn into_parts(self, alloc: Global) -> Parts<Work, Global>
+    pub fn into_parts(self, alloc: Global) -> BoxParts<Work, Global>
         requires { IsSome self.work }
         ensures { Some result.value ≡ self.work }
     {
         let ptr = self.ptr as *mut Work;
-        Parts { ptr, alloc }
+        BoxParts { ptr, alloc }
     }
 }
 

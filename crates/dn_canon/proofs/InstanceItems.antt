@@ -29,7 +29,7 @@ use Rattle.dn_canon.proofs.RowLaws.{IsInk, AllWords, number_word, number_words}
 use Rattle.dn_canon.proofs.ItemLaws.{IsHead}
 use Rattle.dn_canon.proofs.PartLaws.{items_back, no_items, all_append, all_map}
 use Rattle.dn_canon.proofs.ArcItems.{min_item, max_item, sp_item, min_items, max_items, sp_items, arcs_back, no_arc_more}
-use Rattle.dn_canon.proofs.KeyLaws.{by_key_rising}
+use Rattle.dn_canon.proofs.KeyLaws.{by_key_ascending}
 
 -- the words of the problem line
 abbrev pub head_row : Instance → Cells
@@ -170,7 +170,7 @@ supplies_back graph supplies v =
       supplies_read graph.nodes supplies v.each,
       no_items supply_in min_item min_items.no_supply graph.arcs,
       append-nil,
-    ) (by_key_rising supplies v.map)
+    ) (by_key_ascending supplies v.map)
 
 -- the items after the problem line make the instance
 pub body_makes : (I : Instance) → IsValid I → instance_as (kind_of I) (nodes_of I) (body_of I) ≡ Some I
@@ -185,7 +185,7 @@ body_makes (ShortestPaths graph) v = rw (arcs_back sp_items graph.arcs)
 body_makes (Sources ids) v = rw (items_back source_in Item.Source (λ i. refl) ids)
 body_makes (Queries pairs) v = rw (items_back query_in query_item (λ q. refl) pairs)
 body_makes (Coordinates points) v =
-    rw (items_back point_in point_item (λ p. refl) points, by_key_rising points v.map)
+    rw (items_back point_in point_item (λ p. refl) points, by_key_ascending points v.map)
 
 -- all items make the instance
 pub items_make : (I : Instance) → IsValid I → instance_of (head_item I ∷ body_of I) ≡ Some I

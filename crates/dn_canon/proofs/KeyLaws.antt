@@ -1,4 +1,4 @@
--- Lemmas on entries by rising key: inserting them one after another makes the same list.
+-- Lemmas on entries by ascending key: inserting them one after another makes the same list.
 use Rattle.std.proofs.Common.{◌≡◌, ℤ, List, [], ◌∷◌, ◌++◌, Bool, false, map, refl, sym, append_assoc, append-nil}
 use Rattle.std.specs.List.{AllByRecursion, fold, list_any}
 use Rattle.std.specs.Map.{keys_of}
@@ -35,16 +35,16 @@ module _ {X : Type 0} where
   put_last [] k v h = refl
   put_last (e ∷ es) k v h = rw (int_cmp_total.antisymm k e.0, h.0, put_last es k v h.1)
 
-  -- entries by rising key are appended one after another
+  -- entries by ascending key are appended one after another
   put_all : (done es : List (ℤ × X)) → IsMap (done ++ es)
       → fold (λ m e. insert_entry int_cmp m e.0 e.1) done es ≡ done ++ es
   put_all done [] m = sym (append-nil done)
   put_all done (e ∷ es) m =
       rw (put_last done e.0 e.1 (below_at done e es m), put_all (done ++ e ∷ []) es (rw append_assoc m), append_assoc)
 
-  -- entries by rising key make themselves
-  pub by_key_rising : (es : List (ℤ × X)) → IsMap es → by_key es ≡ es
-  by_key_rising = put_all []
+  -- entries by ascending key make themselves
+  pub by_key_ascending : (es : List (ℤ × X)) → IsMap es → by_key es ≡ es
+  by_key_ascending = put_all []
 
   -- no item before that of an entry has its key
   pub no_earlier : {es d : List (ℤ × X)} {e : ℤ × X} (has : ℤ → Line → Bool) (item : ℤ × X → Line)

@@ -151,11 +151,11 @@ module _ {B Arc : Type 0} {kind : ArcKind Arc} (laws : IsKind kind) (listed : Fo
       → IsStrictlySortedBy pair_cmp (keys_of table)
       → ((p : ℤ × ℤ) → AreCanonArcsOf kind (listed_at (listed One) table p) (bundle p G.arcs)) → IsValidGraph kind G
       → IsCanonGraphOf kind form (listed_graph (listed form) nodes table) G
-  listed_canon nodes table G is rising stands valid =
+  listed_canon nodes table G is ascending stands valid =
       let all = listed_arcs (listed form) table in
       let at : (q : ℤ × ℤ) → AreListed (bundle q all) (bundle q G.arcs) = λ q.
       let l = at_pair (lookup (same_pair q) table) in
-      rw (listed_bundle (listed form) q table rising)
+      rw (listed_bundle (listed form) q table ascending)
       (record { canon = l.canon; fit = l.fit; same = laws.meaning.same_trans _ _ _ l.same (stands q).same }) in
       rw (← is) (record {
         valid = record {
@@ -167,7 +167,7 @@ module _ {B Arc : Type 0} {kind : ArcKind Arc} (laws : IsKind kind) (listed : Fo
               (all_at_pair (IsPlaced kind G.nodes) kind.IsArc (λ a p. p.is_arc) q G.arcs valid.placed) (at q).same)
               (valid.capacities q);
         };
-        canonical = record { in_order = listed_order (listed form) table rising; canonical = λ q. (at q).canon };
+        canonical = record { in_order = listed_order (listed form) table ascending; canonical = λ q. (at q).canon };
         same = record { nodes = refl; bundles = λ q. laws.meaning.same_sym _ _ (at q).same };
       })
 

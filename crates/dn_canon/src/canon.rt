@@ -10,7 +10,7 @@ ghost use Rattle.dn_canon.specs.State.Runs.{JudgesCanon, RunsSource, TextOutcome
 use crate::writer::{NodeLines, write_graph, write_points, write_queries, write_sources};
 use dn_bundle::Form;
 use dn_instance::{Held, Refusal, View, read_from, read_text};
-use dn_line::{Kind, Source};
+use dn_line::{ByteSource, Kind};
 use dn_sink::{Bytes, Matcher, Sink, SinkFault};
 use std::alloc::Global;
 
@@ -72,7 +72,7 @@ pub fn canon_text(alloc: Global, held: &Held, form: Form) -> Result<Vec<u8>, Ref
 /// # Errors
 ///
 /// The errors of `read_from` and of `write_canon`. Nothing was put, unless the error is `Write`.
-pub fn canon_run<S: Source, K: Sink>(
+pub fn canon_run<S: ByteSource, K: Sink>(
     alloc: Global,
     source: &mut S,
     sink: &mut K,

@@ -25,7 +25,7 @@ use dn_instance::{Refusal, Table};
 use dn_line::Kind;
 use dn_nodes::NodeMap;
 use dn_sink::{Sink, SinkFault, put_and_flush};
-use dn_table::Walk;
+use dn_table::Prefetch;
 
 // The lines between the problem line and the arcs of a graph.
 #[derive(Clone, Copy)]
@@ -93,7 +93,7 @@ pub(crate) fn write_queries<K: Sink>(sink: &mut K, queries: &[(i64, i64)]) -> Re
     put_and_flush(sink, block.bytes())
 }
 
-// Writes a `co` text, by rising ID.
+// Writes a `co` text, by ascending ID.
 pub(crate) fn write_points<K: Sink>(
     sink: &mut K,
     points: &NodeMap<(i64, i64)>,
@@ -114,7 +114,7 @@ pub(crate) fn write_points<K: Sink>(
 fn arc_count<B: Bundle>(table: &Table<B>, form: Form) -> Option<u64>
     ensures count { let all = length (listed_arcs (B.bundle.listed form) table.now) in
         MatchOption result (2 ^ 63 ≤ all) (λ n. (n ≡ all) × n < 2 ^ 63) }
-    ensures rising { IsStrictlySortedBy pair_cmp (keys_of table.now) }
+    ensures ascending { IsStrictlySortedBy pair_cmp (keys_of table.now) }
 {
     match table.arc_count(form) {
         Some(all) => { if all < 1 << 63 { Some(all) } else { None } }
@@ -156,7 +156,7 @@ fn put_table<B: Bundle, K: Sink>(
     ensures { let rows = map (arc_row B.bundle.kind) (listed_arcs (B.bundle.listed form) table.now) in
         Adds K.sink sink.old sink.new block.old block.new (text_of rows) result }
 {
-    let mut walk = Walk::new();
+    let mut walk = Prefetch::new();
     for (pair, bundle) in table.pairs() {
         walk = table.touch(walk);
         put_bundle(block, sink, &pair, bundle, form)?;

@@ -38,7 +38,7 @@ use Rattle.dn_compare.specs.FirstDifference.{BundlesDiffer, IsFirstDifference, I
 use Rattle.dn_compare.specs.State.Partings.{by_flow, by_point, AlikeAt, PartAt, IsPairVerdict, IsListVerdict, IsVerdictOn}
 use Rattle.dn_instance.specs.declared.verdict.Verdict.{Verdict}
 use Rattle.dn_instance.specs.declared.verdict.Verdict.TheVariants as Verdicts
-use Rattle.dn_compare.proofs.WalkLaws.{same_entries}
+use Rattle.dn_compare.proofs.PeekedLaws.{same_entries}
 use Rattle.dn_compare.proofs.FirstLaws.{kind_first, nodes_first, supply_first, source_first, sink_first, pair_first, length_first, item_first, point_first}
 use Rattle.dn_compare.proofs.VerdictLaws.{same_first}
 

@@ -2,6 +2,6 @@ pub mod TruthLaws
 pub mod PlaceLaws
 pub mod VerdictLaws
 pub mod FirstLaws
-pub mod WalkLaws
+pub mod PeekedLaws
 pub mod ArcPartings
 pub mod HeldVerdicts

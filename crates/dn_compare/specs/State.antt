@@ -1,2 +1,2 @@
-pub mod Walks
+pub mod Peeked
 pub mod Partings

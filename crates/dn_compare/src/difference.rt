@@ -5,7 +5,7 @@ ghost use Rattle.dn_table.specs.State.Tables.{Lists};
 ghost use Rattle.dn_compare.specs.FirstDifference.{IsFirstDifference};
 ghost use Rattle.dn_compare.specs.State.Partings.{IsListVerdict, IsPairVerdict, IsVerdictOn};
 
-use crate::parting::{Item, first_item, first_parting};
+use crate::parting::{Listed, first_item, first_parting};
 use dn_bundle::{Bundle, Curve, Total};
 use dn_instance::{Held, Table, Verdict, View};
 use dn_nodes::NodeMap;
@@ -120,7 +120,7 @@ fn pair_verdict<B: Bundle>(left: &Table<B>, right: &Table<B>) -> Verdict
 }
 
 // Returns the verdict on two lists.
-fn list_verdict<T: Item>(left: &[T], right: &[T]) -> Verdict
+fn list_verdict<T: Listed>(left: &[T], right: &[T]) -> Verdict
     ensures { IsListVerdict left.now right.now result }
 {
     if left.len() != right.len() {

@@ -3,14 +3,14 @@
 //! index, with the values of both sides. For any two instances exactly one verdict is right, and it depends only on
 //! what they mean.
 //!
-//! In the order of the data: `side` says how the entries of a table or a map are compared, `walk` walks over them,
+//! In the order of the data: `side` says how the entries of a table or a map are compared, `peeked` walks over them,
 //! `parting` finds where two sides first differ, and `difference` makes a `Verdict` of it, a type of `dn_instance`.
 #![tactic(auto)]
 
 mod difference;
 mod parting;
+mod peeked;
 mod side;
-mod walk;
 
 pub use difference::compare;
 pub use dn_instance::Verdict;

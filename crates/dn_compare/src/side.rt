@@ -7,13 +7,13 @@ ghost use Rattle.std.specs.declared.cmp.Ordering.TheVariants.{Equal};
 ghost use Rattle.std.proofs.lemmas.Map.Lookups.{exact_pairs, exact_signed};
 ghost use Rattle.dn_arc_theory.specs.declared.arc.Form.TheVariants.{One};
 ghost use Rattle.dn_compare.specs.State.Partings.{Compares, Comparison, by_flow, by_meaning, by_point};
-ghost use Rattle.dn_compare.specs.State.Walks.{before_walk};
+ghost use Rattle.dn_compare.specs.State.Peeked.{peeked_entries};
 
 use dn_bundle::{Bundle, How};
 use dn_instance::Pairs;
 use dn_nodes::Nodes;
 
-// Entries by rising key, each handed out once, whose values can be compared.
+// Entries by ascending key, each handed out once, whose values can be compared.
 pub(crate) trait Side: Drop {
     type Key: Ord + Copy;
 
@@ -35,7 +35,7 @@ pub(crate) trait Side: Drop {
 
     // Hands out the next entry.
     fn next_entry(&mut self) -> Option<(Self::Key, Self::Lent)>
-        ensures { before_walk value result (entries self.new) ≡ entries self.old };
+        ensures { peeked_entries value result (entries self.new) ≡ entries self.old };
 
     // Returns how two values at a key, each of which may be missing, differ, or `None` if they count as the same.
     fn how(left: Option<Self::Lent>, right: Option<Self::Lent>) -> Option<Self::How>

@@ -5,7 +5,7 @@ ghost use Rattle.dn_host.specs.Openers.{Remains};
 ghost use Rattle.dn_host.specs.Streams.{PullsStream};
 
 use crate::stream::{Stream, read_retrying};
-use dn_line::{Source, SourceFault, piece_len};
+use dn_line::{ByteSource, SourceFault, piece_len};
 use std::alloc::{AllocError, Global};
 
 // The size in bytes of the buffer of a source.
@@ -34,8 +34,9 @@ impl<S: Stream> Buffered<S> {
     pub fn new(alloc: Global, stream: S) -> Result<Buffered<S>, AllocError>
     where
         S: Drop,
-        ensures gives { IfOk result (λ b. Remains (S.stream.gives stream) (⟦<Buffered<S> as Source>⟧.source.gives b)) }
-        ensures fine { IfOk result (λ b. ⟦<Buffered<S> as Source>⟧.source.has_failed b ≡ false) }
+        ensures gives { IfOk result
+            (λ b. Remains (S.stream.gives stream) (⟦<Buffered<S> as ByteSource>⟧.source.gives b)) }
+        ensures fine { IfOk result (λ b. ⟦<Buffered<S> as ByteSource>⟧.source.has_failed b ≡ false) }
     {
         let mut bytes = Vec::with_capacity(alloc, BUFFER)?;
         bytes.resize(BUFFER, 0)?;
@@ -93,7 +94,7 @@ impl<S: Stream> Buffered<S> {
     }
 }
 
-impl<S: Stream> Source for Buffered<S> {
+impl<S: Stream> ByteSource for Buffered<S> {
     ghost source = { record {
       gives = λ s. prepend_known (slice_range s.bytes.items s.start s.end) (S.stream.gives s.stream);
       has_failed = λ s. s.failed;

@@ -4,7 +4,7 @@ ghost use Rattle.dn_host.specs.State.Takes.{Takes};
 ghost use Rattle.dn_host.specs.Takings.{FilesFacts, TakesBack};
 
 use dn_instance::Held;
-use dn_line::Source;
+use dn_line::ByteSource;
 use thiserror::Error;
 
 /// Why files did not hand out a text.
@@ -21,7 +21,7 @@ pub enum FilesFault {
 /// Hands out texts by name. The name `-` is standard input.
 pub trait Files {
     /// A text that the files hand out.
-    type Text: Source + Drop;
+    type Text: ByteSource + Drop;
 
     /// How the files describe themselves.
     ghost files: { FilesFacts Self Self.Text };

@@ -10,7 +10,7 @@ use crate::files::{Files, FilesFault};
 use crate::opener::Opener;
 use crate::stream::Stream;
 use dn_instance::Held;
-use dn_line::Source;
+use dn_line::ByteSource;
 use std::alloc::Global;
 use std::io;
 use std::io::ErrorKind;
@@ -52,7 +52,7 @@ impl<'a, P: Opener> Files for OpenedFiles<'a, P> {
       Faults = λ s. MayFault P.opener s.opener.now;
       Asks = λ old name new. P.opener.Opens old.opener.now name new.opener.now;
       Hands = λ s name t. (t.failed ≡ false) × Remains (behind_of P.opener s.opener.now name)
-          (⟦<OpenedSource<P> as Source>⟧.source.gives t);
+          (⟦<OpenedSource<P> as ByteSource>⟧.source.gives t);
       Backs = λ old _ _ new. new ≡ old;
     } };
 
@@ -95,8 +95,8 @@ fn stream_of<P: Opener>(opener: &mut P, name: &str) -> io::Result<P::Stream>
 // Opens a text.
 fn opened<P: Opener>(alloc: Global, opener: &mut P, name: &str) -> io::Result<OpenedSource<P>>
     ensures gives { IfOk result (λ t. Remains (behind_of P.opener opener.old name.now)
-        (⟦<OpenedSource<P> as Source>⟧.source.gives t)) }
-    ensures fine { IfOk result (λ t. ⟦<OpenedSource<P> as Source>⟧.source.has_failed t ≡ false) }
+        (⟦<OpenedSource<P> as ByteSource>⟧.source.gives t)) }
+    ensures fine { IfOk result (λ t. ⟦<OpenedSource<P> as ByteSource>⟧.source.has_failed t ≡ false) }
     ensures fails { IfErr result (λ e. MayFail P.opener opener.old name.now (error_kind e)) }
     ensures opens { P.opener.Opens opener.old name.now opener.new }
     ensures keeps { KeepsOthers (behind_of P.opener opener.old) (behind_of P.opener opener.new) name.now }

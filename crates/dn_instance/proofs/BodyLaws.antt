@@ -1,5 +1,5 @@
 -- Lemmas on taking one row into a body, and on a body of one kind as a body of any kind.
-use Rattle.std.proofs.Common.{◌≡◌, ℤ, List, [], ◌∷◌, ◌++◌, Bool, true, not, int_lt, ◌&&◌, IsTrue, ◌↔◌, Option, Some, Result, Err, OnOk, refl, sym, ap, ◌∙◌, subst, ◌^◌, pos, arith, inl, inr, ◌<◌, filter_map, length-append, ℕ, length}
+use Rattle.std.proofs.Common.{◌≡◌, ℤ, List, [], ◌∷◌, ◌++◌, Bool, true, not, int_lt, ◌&&◌, IsTrue, ◌↔◌, Option, Some, Result, OnOk, refl, sym, ap, ◌∙◌, subst, ◌^◌, pos, arith, inl, inr, ◌<◌, filter_map, length-append, ℕ, length}
 use Rattle.std.proofs.lemmas.Result.{on_ok_weaker}
 use Rattle.dn_line.specs.Faults.{first_fault}
 use Rattle.dn_line.specs.declared.code.Code.{Code}
@@ -22,7 +22,6 @@ use Rattle.dn_instance.specs.State.Bodies.{Awaits, MapHolds, TableHolds, TakesRo
 use Rattle.dn_instance.specs.State.ItemFaults.{AnswersFault, arc_fault, id_fault, in_graph, pair_fault, point_fault}
 use Rattle.dn_instance.specs.State.RowHeads.{counted_line}
 use Rattle.dn_instance.specs.declared.refusal.ItemFault.{ItemFault}
-use Rattle.dn_instance.specs.declared.refusal.ItemFault.TheVariants.{Memory}
 use Rattle.dn_instance.proofs.ValidLaws.{grown}
 use Rattle.std.proofs.Math.Bool.{and-true, not-not}
 use Rattle.std.proofs.lemmas.Int.{ints}
@@ -45,7 +44,7 @@ use Rattle.dn_instance.proofs.FirstFaults.{none_first}
 use Rattle.dn_instance.proofs.MapLaws.{by_key_push, one_more_key, found_by_key, points_named}
 use Rattle.dn_instance.proofs.ItemSteps.{problem_all}
 use Rattle.std.proofs.lemmas.Bool.{not-false}
-use Rattle.dn_instance.proofs.MarksLaws.{map_gains, on_ok_from}
+use Rattle.dn_instance.proofs.DescriptorLaws.{map_gains, on_ok_from}
 
 -- the first fault of an item is that of its arc, where `is` says whether a problem may have the arc
 pub record SaysFault {Arc : Type 0} (kind : ArcKind Arc) (nodes : ℤ) (arcs : List ((ℤ × ℤ) × Arc)) (a : (ℤ × ℤ) × Arc)

@@ -19,12 +19,12 @@ use Rattle.dn_instance.specs.Items.{counted, terminal_of, graph_of, arcs_of, cap
 use Rattle.dn_instance.specs.TextFaults.{end_fault, lacks_terminal}
 use Rattle.dn_instance.specs.State.Bodies.{TableHolds}
 use Rattle.dn_bundle.specs.State.Listings.{total_arcs}
-use Rattle.dn_instance.specs.State.TextParts.{AnyBody, BodyHolds, MarksHold, IsSorted, SortsTable, body_kind, terminals_of}
+use Rattle.dn_instance.specs.State.TextParts.{AnyBody, BodyHolds, DescriptorsHold, IsSorted, SortsTable, body_kind, terminals_of}
 use Rattle.dn_instance.specs.State.Ends.{EndsWith}
 use Rattle.dn_instance.specs.State.Helds.{Bundles, Contents, OfMax, Parsed, Shows, contents_of}
 use Rattle.dn_instance.specs.State.TextsSoFar.{HasRead, problem_as, text_kind}
 use Rattle.dn_instance.specs.declared.body.Body.TheVariants as Bodies
-use Rattle.dn_instance.specs.declared.marks.Marks.{Marks}
+use Rattle.dn_instance.specs.declared.node_descriptors.NodeDescriptors.{NodeDescriptors}
 use Rattle.dn_bundle.specs.declared.least.Least.{Least}
 use Rattle.dn_bundle.specs.declared.total.Total.{Total}
 use Rattle.dn_instance.specs.declared.text_so_far.TextSoFar.{TextSoFar}
@@ -36,13 +36,14 @@ Made kind nodes items contents =
     (lacks_terminal (Some kind) items ≡ false)
     × ((I : Instance) × (instance_as kind nodes items ≡ Some I) × Shows contents I)
 
-module _ (h : Marks) (items : List Line) (marks : MarksHold h items) (nodes : ℤ) (terminals : ℤ × ℤ) where
+module _ (h : NodeDescriptors) (items : List Line) (descriptors : DescriptorsHold h items) (nodes : ℤ)
+    (terminals : ℤ × ℤ) where
   max_made : (t u : Bundles Total) → TableHolds capacities cap_arc_in total_arcs t items → SortsTable t u
       → (source sink : Option ℤ) → h.source ≡ source → h.sink ≡ sink → terminals_of Max source sink ≡ Some terminals
       → Made Max nodes items (OfMax terminals.0 terminals.1 u)
   max_made t u k s (Some a) (Some c) from to e =
-      let one : terminal_of S items ≡ Some a = sym marks.source_is ∙ from in
-      let other : terminal_of T items ≡ Some c = sym marks.sink_is ∙ to in
+      let one : terminal_of S items ≡ Some a = sym descriptors.source_is ∙ from in
+      let other : terminal_of T items ≡ Some c = sym descriptors.sink_is ∙ to in
       let both : (a, c) ≡ terminals = cc in (
         rw (one, other),
         (
@@ -51,7 +52,7 @@ module _ (h : Marks) (items : List Line) (marks : MarksHold h items) (nodes : �
           rw (← both) (
             refl,
             refl,
-            stands_as capacities (λ (x : Total). cap_listed x.total) t u (arcs_of cap_arc_in items) s.rising s.kept
+            stands_as capacities (λ (x : Total). cap_listed x.total) t u (arcs_of cap_arc_in items) s.ascending s.kept
                 k.lists_them,
           ),
         ),
@@ -68,9 +69,9 @@ module _ (h : Marks) (items : List Line) (marks : MarksHold h items) (nodes : �
       _,
       refl,
       (
-        marks.supplies.entries_are,
+        descriptors.supplies.entries_are,
         stands_as costs (λ (x : CurveNumbers). listed One x.units x.cost x.steps) t u (arcs_of cost_arc_in items)
-            s.rising s.kept k.lists_them,
+            s.ascending s.kept k.lists_them,
       ),
     ),
   )
@@ -80,7 +81,7 @@ module _ (h : Marks) (items : List Line) (marks : MarksHold h items) (nodes : �
     (
       _,
       refl,
-      stands_as lengths (λ (x : Least). length_listed x.length) t u (arcs_of length_arc_in items) s.rising s.kept
+      stands_as lengths (λ (x : Least). length_listed x.length) t u (arcs_of length_arc_in items) s.ascending s.kept
           k.lists_them,
     ),
   )
@@ -101,11 +102,12 @@ module _ (t : TextSoFar) (items : List Line) (b : AnyBody) (at : HasRead t items
 
   -- a text with its terminals and as many counted lines as declared ends without a fault
   pub ends_whole : (c : AnyBody) (held : Parsed) (terminals : ℤ × ℤ) → IsSorted b c
-      → terminals_of (body_kind b) t.marks.source t.marks.sink ≡ Some terminals → int_lt (pos 0) t.due ≡ false
-      → held.nodes ≡ t.nodes → held.lines ≡ t.count
-      → held.contents ≡ contents_of t.marks.supplies.entries terminals c → EndsWith items (Ok held)
+      → terminals_of (body_kind b) t.descriptors.source t.descriptors.sink ≡ Some terminals
+      → int_lt (pos 0) t.due ≡ false → held.nodes ≡ t.nodes → held.lines ≡ t.count
+      → held.contents ≡ contents_of t.descriptors.supplies.entries terminals c → EndsWith items (Ok held)
   ends_whole c held terminals sorted both enough nodes lines contents =
-      let m = made t.marks items at.marks_hold t.nodes terminals b c (rw is at at.body_holds) sorted both in (
+      let m = made t.descriptors items at.descriptors_hold t.nodes terminals b c (rw is at at.body_holds) sorted both
+      in (
         end_is t items (body_kind b) false false at kind_is m.0 enough,
         record {
           problem = problem_as t (body_kind b);
@@ -121,15 +123,18 @@ module _ (t : TextSoFar) (items : List Line) (b : AnyBody) (at : HasRead t items
       all_read : (k : ℕ) (d c : ℤ) → pos k +ℤ d ≡ c → pos 0 ≤ℤ d → int_lt (pos 0) d ≡ false → c ≡ pos k
       all_read k d c e some none = grind (arith, ints, nat_tests)
 
-  pub ends_early : (terminals : ℤ × ℤ) → terminals_of (body_kind b) t.marks.source t.marks.sink ≡ Some terminals
+  pub ends_early : (terminals : ℤ × ℤ)
+      → terminals_of (body_kind b) t.descriptors.source t.descriptors.sink ≡ Some terminals
       → int_lt (pos 0) t.due ≡ true → end_fault items ≡ Some TooFewLines
   ends_early terminals both few =
       end_is t items (body_kind b) false true at kind_is (not_lacking (body_kind b) terminals both) few
     where
-      not_lacking : (kind : Kind) (terminals : ℤ × ℤ) → terminals_of kind t.marks.source t.marks.sink ≡ Some terminals
+      not_lacking : (kind : Kind) (terminals : ℤ × ℤ)
+          → terminals_of kind t.descriptors.source t.descriptors.sink ≡ Some terminals
           → lacks_terminal (Some kind) items ≡ false
       not_lacking Max terminals e =
-          rw (← at.marks_hold.source_is, ← at.marks_hold.sink_is) (by t.marks.source t.marks.sink e)
+          rw (← at.descriptors_hold.source_is, ← at.descriptors_hold.sink_is)
+          (by t.descriptors.source t.descriptors.sink e)
         where
           by : (a c : Option ℤ) → terminals_of Max a c ≡ Some terminals → (is_none a || is_none c) ≡ false
           by (Some a) (Some c) e = refl

@@ -16,12 +16,12 @@ use Rattle.dn_line.specs.State.Spelling.{kind_before, slots_of}
 use Rattle.dn_instance.specs.Items.{Problem, problem_of, problem_in, kind_known, counted, is_counted}
 use Rattle.dn_instance.specs.TextFaults.{is_arc}
 use Rattle.dn_line.specs.LineTable.{is_companion}
-use Rattle.dn_instance.specs.State.TextParts.{AnyBody, BodyHolds, MarksHold, body_kind}
+use Rattle.dn_instance.specs.State.TextParts.{AnyBody, BodyHolds, DescriptorsHold, body_kind}
 use Rattle.dn_instance.specs.State.RowHeads.{HasRoomFor}
 use Rattle.dn_instance.specs.State.TextsSoFar.{AwaitsRow, HasRead, HoldsBody, problem_as, text_kind}
-use Rattle.dn_instance.specs.declared.marks.Marks.{Marks}
+use Rattle.dn_instance.specs.declared.node_descriptors.NodeDescriptors.{NodeDescriptors}
 use Rattle.dn_instance.specs.declared.text_so_far.TextSoFar.{TextSoFar}
-use Rattle.dn_instance.proofs.MarksLaws.{IsNoMark, body_kept, mark_kept, holds_kept, no_item}
+use Rattle.dn_instance.proofs.DescriptorLaws.{IsNoDescriptor, body_kept, descriptors_kept, holds_kept, no_item}
 
 -- the body is of the declared kind
 pub kind_agrees : (t : TextSoFar) (items : List Line) → HasRead t items → kind_known items ≡ text_kind t
@@ -44,7 +44,7 @@ with_lines t n items at = record {
   due_is = at.due_is;
   due_some = at.due_some;
   arcs_are = at.arcs_are;
-  marks_hold = at.marks_hold;
+  descriptors_hold = at.descriptors_hold;
   body_holds = at.body_holds;
 }
 
@@ -110,25 +110,25 @@ has_due t items i kind at is room y =
     above d h = grind (arith, ints, nat_tests)
 
 -- an `n` line has been read
-pub marks_read : (t : TextSoFar) (h : Marks) (before : List Line) (i : Line) (kind : Kind) → HasRead t before
-    → text_kind t ≡ Some kind → is_counted i ≡ false → is_arc i ≡ false → MarksHold h (before ++ i ∷ [])
-    → HasRead (record t { marks = h }) (before ++ i ∷ [])
-marks_read t h before i kind at is free no_arc held = record {
+pub descriptor_read : (t : TextSoFar) (h : NodeDescriptors) (before : List Line) (i : Line) (kind : Kind)
+    → HasRead t before → text_kind t ≡ Some kind → is_counted i ≡ false → is_arc i ≡ false
+    → DescriptorsHold h (before ++ i ∷ []) → HasRead (record t { descriptors = h }) (before ++ i ∷ [])
+descriptor_read t h before i kind at is free no_arc held = record {
   problem_is = rw is (problem_all before (i ∷ []) _ (problem_agrees t before kind at is));
   count_fits = at.count_fits;
   due_is = rw (counted_no before i free) at.due_is;
   due_some = at.due_some;
   arcs_are = λ graph. rw (list_any-append is_arc before (i ∷ []), no_arc, or-false) (at.arcs_are graph);
-  marks_hold = held;
+  descriptors_hold = held;
   body_holds = holds_kept t.body kind is before i free at.body_holds;
 }
 
 -- a counted line has been read
 pub body_read : (t : TextSoFar) (b : AnyBody) (before : List Line) (i : Line) (kind : Kind) → HasRead t before
     → text_kind t ≡ Some kind → body_kind b ≡ kind → is_counted i ≡ true
-    → (is_companion kind ≡ false → is_arc i ≡ true) → IsNoMark i → pos 1 ≤ℤ t.due → BodyHolds b (before ++ i ∷ [])
+    → (is_companion kind ≡ false → is_arc i ≡ true) → IsNoDescriptor i → pos 1 ≤ℤ t.due → BodyHolds b (before ++ i ∷ [])
     → HasRead (record t { due = t.due -ℤ pos 1; body = Some b }) (before ++ i ∷ [])
-body_read t b before i kind at is kept one arc no_mark some held = record {
+body_read t b before i kind at is kept one arc no_descriptor some held = record {
   problem_is = rw kept (problem_all before (i ∷ []) _ (problem_agrees t before kind at is));
   count_fits = at.count_fits;
   due_is = rw (counted_yes before i one) (omega (arith, ints, at.due_is));
@@ -136,7 +136,7 @@ body_read t b before i kind at is kept one arc no_mark some held = record {
   arcs_are = λ graph.
       rw (list_any-append is_arc before (i ∷ []), arc (not-true _ (rw kept at graph)), or-true)
       (late (counted before) t.due t.count at.due_is);
-  marks_hold = mark_kept t.marks before i no_mark at.marks_hold;
+  descriptors_hold = descriptors_kept t.descriptors before i no_descriptor at.descriptors_hold;
   body_holds = held;
 }
   where
@@ -164,7 +164,7 @@ none_before t before i p a is =
 -- the problem line has been read
 pub begun : (t u : TextSoFar) (b : AnyBody) (before : List Line) (i : Line) (p : Problem) → AwaitsRow t before i
     → problem_in i ≡ Some p → u.body ≡ Some b → body_kind b ≡ p.kind → p ≡ problem_as u p.kind → u.count <ℤ pos (2 ^ 63)
-    → u.due ≡ u.count → pos 0 ≤ℤ u.count → u.marks ≡ t.marks → BodyHolds b [] → HasRead u (before ++ i ∷ [])
+    → u.due ≡ u.count → pos 0 ≤ℤ u.count → u.descriptors ≡ t.descriptors → BodyHolds b [] → HasRead u (before ++ i ∷ [])
 begun t u b before i p a is body kind same_problem fits due some same holds =
     rw first (record {
       problem_is = rw (is, body, kind, ← same_problem);
@@ -172,7 +172,7 @@ begun t u b before i p a is body kind same_problem fits due some same holds =
       due_is = rw (head.2, due) (omega (arith, ints));
       due_some = rw due some;
       arcs_are = λ graph. rw (head.1, due) (below u.count);
-      marks_hold = rw same (mark_kept t.marks [] i other.1 (rw first at a.read.marks_hold));
+      descriptors_hold = rw same (descriptors_kept t.descriptors [] i other.1 (rw first at a.read.descriptors_hold));
       body_holds = rw body (body_kept b [] i other.0 holds);
     })
   where
@@ -182,7 +182,7 @@ begun t u b before i p a is body kind same_problem fits due some same holds =
     head : (kind_before i ≡ None) × (list_any is_arc (i ∷ []) ≡ false) × (counted (i ∷ []) ≡ 0)
     head = heads i (ap is_some is)
 
-    other : (is_counted i ≡ false) × IsNoMark i
+    other : (is_counted i ≡ false) × IsNoDescriptor i
     other = no_item i (ap is_some is)
 
     below : (c : ℤ) → false ≡ int_lt c c

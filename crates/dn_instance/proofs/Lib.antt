@@ -16,6 +16,6 @@ pub mod SourceLaws
 pub mod EntryLaws
 pub mod RowTakes
 pub mod RowLinesLaws
-pub mod MarksLaws
+pub mod DescriptorLaws
 pub mod BodyLaws
 pub mod CompanionLaws

@@ -1,5 +1,5 @@
 -- Lemmas on a table that represents arcs when one more arc is added.
-use Rattle.std.proofs.Common.{◌≡◌, ◌↔◌, ℤ, pos, ◌<ℤ◌, ◌-◌, ◌^◌, ◌&&◌, arith, List, [], ◌∷◌, ◌++◌, Bool, true, false, Option, Some, None, refl, append-nil, inl, inr}
+use Rattle.std.proofs.Common.{◌≡◌, ◌↔◌, ℤ, pos, ◌<ℤ◌, ◌-◌, ◌^◌, ◌&&◌, arith, List, [], ◌∷◌, ◌++◌, Bool, true, false, Option, Some, None, refl, append-nil, inl, inr, Err, Result}
 use Rattle.std.proofs.lemmas.Bool.{cases_Bool, cond_both}
 use Rattle.std.specs.List.{AllByRecursion}
 use Rattle.std.specs.Map.{lookup}
@@ -13,7 +13,10 @@ use Rattle.dn_table.specs.State.Tables.{listed_at, Grows, TableLists, AreArcs, S
 use Rattle.dn_arc_theory.proofs.PairLaws.{pair_is, pair_self, bundle_push}
 use Rattle.dn_table.proofs.PairLaws.{other_pair}
 use Rattle.dn_instance.proofs.SumLaws.{passes}
-use Rattle.dn_instance.specs.State.ItemFaults.{in_graph, arc_fault}
+use Rattle.dn_bundle_trait.specs.declared.bundle.BundleFault.{BundleFault}
+use Rattle.dn_bundle_trait.specs.declared.bundle.BundleFault.TheVariants as BundleFaults
+use Rattle.dn_instance.specs.declared.refusal.ItemFault.TheVariants as ItemFaults
+use Rattle.dn_instance.specs.State.ItemFaults.{AnswersFault, in_graph, arc_fault, item_fault}
 use Rattle.dn_line.specs.declared.code.Code.TheVariants.{SumTooLarge}
 use Rattle.std.proofs.lemmas.Int.{ints, by_lt_z}
 use Rattle.dn_bundle_trait.proofs.BundleLaws.{all_end}
@@ -108,6 +111,24 @@ pub sum_fault : {Arc : Type 0} (kind : ArcKind Arc) (nodes : ℤ) (arcs : List (
     (a : (ℤ × ℤ) × Arc) → (in_graph nodes a.0.0 && in_graph nodes a.0.1) ≡ true → is ≡ true → passes kind arcs a ≡ true
     → arc_fault kind nodes arcs is a ≡ Some SumTooLarge
 sum_fault kind nodes arcs is a e f g = rw (e, f, g) refl
+
+abbrev refused : {E : Type 0} → E → Result (Unit {0}) E
+refused e = Err e
+
+-- the first fault of an arc that a bundle does not take
+pub arc_refused : {Arc : Type 0} (kind : ArcKind Arc) (nodes : ℤ) (arcs : List ((ℤ × ℤ) × Arc)) (is : Bool)
+    (a : (ℤ × ℤ) × Arc) (f : BundleFault) → (in_graph nodes a.0.0 && in_graph nodes a.0.1) ≡ true → is ≡ true
+    → (refused f ≡ refused BundleFaults.Sum → passes kind arcs a ≡ true)
+    × ((refused f ≡ refused BundleFaults.Sum → ⊥) → passes kind arcs a ≡ false)
+    → AnswersFault (Err (item_fault f)) (arc_fault kind nodes arcs is a)
+arc_refused kind nodes arcs is a BundleFaults.Sum e f g = sum_fault kind nodes arcs is a e f (g.0 refl)
+arc_refused kind nodes arcs is a BundleFaults.Memory e f g = taken_fault kind nodes arcs is a e f (g.1 (λ q. cc))
+
+-- memory runs out for the item exactly if it runs out for the bundle
+pub memory_of : (f : BundleFault) → refused (item_fault f) ≡ refused ItemFaults.Memory
+    → refused f ≡ refused BundleFaults.Memory
+memory_of BundleFaults.Sum e = cc
+memory_of BundleFaults.Memory e = refl
 
 -- the sum of the capacities is too large exactly if the table finds it too large
 pub sum_passes : {B Arc F : Type 0} (kind : ArcKind Arc) (lists : B → List Arc) → IsKind kind

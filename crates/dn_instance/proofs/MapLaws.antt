@@ -48,11 +48,11 @@ module _ {K X : Type 0} (cmp : K → K → Ordering) (k : K) (v : X) where
       (λ h. (all.0, keys_put P es new all.1))
 
   -- ascending keys are ascending after inserting
-  pub rising_put : IsTotalOrder cmp → (es : List (K × X)) → IsStrictlySortedBy cmp (keys_of es)
+  pub ascending_put : IsTotalOrder cmp → (es : List (K × X)) → IsStrictlySortedBy cmp (keys_of es)
       → IsStrictlySortedBy cmp (keys_of (insert_entry cmp es k v))
   unfolding IsStrictlySortedBy
-  rising_put total [] m = (tt, tt)
-  rising_put total (e ∷ es) m =
+  ascending_put total [] m = (tt, tt)
+  ascending_put total (e ∷ es) m =
       put_cases (λ xs. IsStrictlySortedBy cmp (keys_of xs)) e es (λ h. (
         (
           h,
@@ -61,7 +61,7 @@ module _ {K X : Type 0} (cmp : K → K → Ordering) (k : K) (v : X) where
         m,
       )) (λ h. m) (λ h. (
         keys_put (λ y. cmp e.0 y ≡ Less) es (total.antisymm e.0 k ∙ ap ordering_reverse h) m.0,
-        rising_put total es m.1,
+        ascending_put total es m.1,
       ))
 
 -- what holds of each entry and of the inserted one holds of each entry after inserting

@@ -26,13 +26,13 @@ use Rattle.dn_instance.specs.Items.{Problem, is_counted, problem_in}
 use Rattle.dn_instance.specs.TextFaults.{is_arc, is_counted_letter, is_node_letter, order_tests}
 use Rattle.dn_instance.specs.State.Bodies.{Awaits, TakesRow, TookRow}
 use Rattle.dn_instance.specs.State.RowHeads.{HasSigns, IsRowHead, counted_head, counted_line}
-use Rattle.dn_instance.specs.State.TextParts.{AnyBody, BodyHolds, MarksHold, body_kind}
+use Rattle.dn_instance.specs.State.TextParts.{AnyBody, BodyHolds, DescriptorsHold, body_kind}
 use Rattle.dn_instance.specs.State.TextsSoFar.{AwaitsRow, ComeInTime, HasRead, TakesRowOf, problem_as, text_kind}
-use Rattle.dn_instance.specs.declared.marks.Marks.{Marks}
+use Rattle.dn_instance.specs.declared.node_descriptors.NodeDescriptors.{NodeDescriptors}
 use Rattle.dn_instance.specs.declared.refusal.ItemFault.{ItemFault}
 use Rattle.dn_instance.specs.declared.text_so_far.TextSoFar.{TextSoFar}
-use Rattle.dn_instance.proofs.MarksLaws.{row_no_mark}
-use Rattle.dn_instance.proofs.ItemSteps.{body_read, counted_no, counted_yes, full_is, has_due, kind_agrees, kind_of_item, marks_read, problem_agrees, problem_all}
+use Rattle.dn_instance.proofs.DescriptorLaws.{row_no_descriptor}
+use Rattle.dn_instance.proofs.ItemSteps.{body_read, counted_no, counted_yes, full_is, has_due, kind_agrees, kind_of_item, descriptor_read, problem_agrees, problem_all}
 
 -- no counted line has the head of node lines
 pub not_node : (kind : Kind) → Heads.Node ≡ counted_head kind → ⊥
@@ -79,7 +79,7 @@ counted_took t u b b' kind row r body is same takes on = rw is (λ before a.
     record {
       answer = took.answer;
       holds = read r on took.holds (λ held. body_read t b' before i kind a.read is (same ∙ own)
-          (one_counted kind row) (one_arc kind row) (row_no_mark kind row) some held) some;
+          (one_counted kind row) (one_arc kind row) (row_no_descriptor kind row) some held) some;
     })
   where
     read : {P : Type 0} {v : TextSoFar} {items : List Line} (r : Result (Unit {0}) ItemFault)
@@ -97,7 +97,7 @@ same_read t b b' before body same keep at = record {
   due_is = at.due_is;
   due_some = at.due_some;
   arcs_are = λ graph. at.arcs_are (rw (body, ← same) graph);
-  marks_hold = at.marks_hold;
+  descriptors_hold = at.descriptors_hold;
   body_holds = keep (rw body at at.body_holds);
 }
 
@@ -134,31 +134,32 @@ of_counted t u head row r p n takes before a =
     subst (λ h. AwaitsRow t before (item_of_row h (text_kind t) row)
     → TookRow before (HasRead u) (item_of_row h (text_kind t) row) r) (sym head_is) (takes own.0 is before) a
 
--- a node line that the marks take is taken by the text
-node_read : (t : TextSoFar) (h : Marks) (kind : Kind) (row : Row) (r : Result (Unit {0}) ItemFault) (i : Line)
+-- a node line that the descriptors take is taken by the text
+node_read : (t : TextSoFar) (h : NodeDescriptors) (kind : Kind) (row : Row) (r : Result (Unit {0}) ItemFault) (i : Line)
     → text_kind t ≡ Some kind → item_of_row Heads.Node (Some kind) row ≡ i → HasSigns i → is_counted i ≡ false
-    → is_arc i ≡ false → TakesRow kind t.nodes (MarksHold t.marks) (MarksHold h) i r
-    → TakesRowOf t (record t { marks = h }) Heads.Node row r
+    → is_arc i ≡ false → TakesRow kind t.nodes (DescriptorsHold t.descriptors) (DescriptorsHold h) i r
+    → TakesRowOf t (record t { descriptors = h }) Heads.Node row r
 node_read t h kind row r i is item signs free no_arc takes = rw (is, item) (λ before a.
-    let took = takes before (awaits_as t kind before i a.read is signs) a.read.marks_hold in
+    let took = takes before (awaits_as t kind before i a.read is signs) a.read.descriptors_hold in
     record {
       answer = took.answer;
-      holds = on_ok_weaker r (λ held. marks_read t h before i kind a.read is free no_arc held) took.holds;
+      holds = on_ok_weaker r (λ held. descriptor_read t h before i kind a.read is free no_arc held) took.holds;
     })
 
-pub terminal_read : (t : TextSoFar) (h : Marks) (row : Row) (r : Result (Unit {0}) ItemFault)
+pub terminal_read : (t : TextSoFar) (h : NodeDescriptors) (row : Row) (r : Result (Unit {0}) ItemFault)
     → text_kind t ≡ Some Max
-    → TakesRow Max t.nodes (MarksHold t.marks) (MarksHold h) (Item.Terminal row.first (letter_named row.second)) r
-    → TakesRowOf t (record t { marks = h }) Heads.Node row r
+    → TakesRow Max t.nodes (DescriptorsHold t.descriptors) (DescriptorsHold h)
+    (Item.Terminal row.first (letter_named row.second)) r
+    → TakesRowOf t (record t { descriptors = h }) Heads.Node row r
 terminal_read t h row r is takes = node_read t h Max row r _ is refl tt refl refl takes
 
-pub supply_read : (t : TextSoFar) (h : Marks) (row : Row) (r : Result (Unit {0}) ItemFault)
+pub supply_read : (t : TextSoFar) (h : NodeDescriptors) (row : Row) (r : Result (Unit {0}) ItemFault)
     → (text_kind t ≡ Some Max → ⊥)
-    → TakesRow Min t.nodes (MarksHold t.marks) (MarksHold h) (Item.Supply row.first row.second) r
-    → TakesRowOf t (record t { marks = h }) Heads.Node row r
+    → TakesRow Min t.nodes (DescriptorsHold t.descriptors) (DescriptorsHold h) (Item.Supply row.first row.second) r
+    → TakesRowOf t (record t { descriptors = h }) Heads.Node row r
 supply_read t h row r other takes = by (text_kind t) refl
   where
-    by : (o : Option Kind) → text_kind t ≡ o → TakesRowOf t (record t { marks = h }) Heads.Node row r
+    by : (o : Option Kind) → text_kind t ≡ o → TakesRowOf t (record t { descriptors = h }) Heads.Node row r
     by (Some Min) e = node_read t h Min row r _ e refl tt refl refl takes
     by (Some Max) e = absurd (other e)
     by _ e = rw e (λ before a. cc a.may.spelled)

@@ -32,7 +32,7 @@ use Rattle.std.proofs.lemmas.Cmp.{int_cmp_total}
 use Rattle.dn_arc_theory.proofs.PairLaws.{pair_is, bundle_push}
 use Rattle.dn_instance.proofs.SumLaws.{passes, total_passes, cost_passes}
 use Rattle.dn_instance.proofs.CleanItems.{IsNext, by_items, problem_push, or_none, or_assoc}
-use Rattle.dn_instance.proofs.MapLaws.{each_put, rising_put, by_key_push, no_keys}
+use Rattle.dn_instance.proofs.MapLaws.{each_put, ascending_put, by_key_push, no_keys}
 use Rattle.dn_table.proofs.GrownLaws.{none_is}
 use Rattle.dn_bundle_trait.proofs.BundleLaws.{all_end}
 
@@ -183,7 +183,7 @@ supplies_grown nodes before id flow node fit s = elim (cases_Bool (int_eq flow (
   | inr e ↦
       let some : flow ≡ pos 0 → ⊥ = λ z. cc (rw z at e) in
       rw (grown supply_in before (Item.Supply id flow) (id, flow) (rw e), by_key_push) (record {
-        map = rising_put int_cmp id flow int_cmp_total (supplies_of before) s.map;
+        map = ascending_put int_cmp id flow int_cmp_total (supplies_of before) s.map;
         each =
             each_put id flow (IsSupply nodes) (supplies_of before)
             (record { node = node; some = some; fits = fit }) s.each;
@@ -276,7 +276,7 @@ next_item p Kinds.P2p before (Item.Query first second) e b fit r n s =
 next_item p Kinds.Co before (Item.Point id x y) e b fit r n s =
     let points = by_key (filter_map point_in before) in
     rw (grown point_in before (Item.Point id x y) (id, (x, y)) refl, by_key_push) (record {
-      map = rising_put int_cmp id (x, y) int_cmp_total points s.map;
+      map = ascending_put int_cmp id (x, y) int_cmp_total points s.map;
       each =
           each_put id (x, y) IsPoint points
           (record { id = (ids_there p (Item.Point id x y) r).0 fit.1.0; x = fit.1.1.0; y = fit.1.1.1.0 }) s.each;

@@ -31,7 +31,7 @@ within nodes ids = unless_found (find (int_lt nodes) ids)
 
 -- whether an instance is a companion that names only nodes up to `nodes`. If it is no companion, the fault is
 -- `NotKinds`. Otherwise the fault names the first node above `nodes`: in file order, where a query's first node comes
--- before its second, and of points by rising ID
+-- before its second, and of points by ascending ID
 abbrev pub nodes_fit : ℤ → Instance → Result (Unit {0}) CompanionFault
 nodes_fit nodes (Sources ids) = within nodes ids
 nodes_fit nodes (Queries pairs) = within nodes (flat_map both_nodes pairs)

@@ -11,7 +11,7 @@ use std::alloc::Global;
 const _: () = prove!(BLOCK == AHEAD);
 
 // Looks up the pairs of the arcs of these rows together in a table, if there are several rows and that may save time.
-// This affects only the speed.
+// Hint.
 pub(crate) fn look_ahead<B: Bundle>(table: &mut TableSoFar<B>, alloc: Global, rows: &[RowLine])
     ensures { table.new ≡ table.old }
 {
@@ -21,7 +21,7 @@ pub(crate) fn look_ahead<B: Bundle>(table: &mut TableSoFar<B>, alloc: Global, ro
 }
 
 // Returns the ordered pairs of the first `AHEAD` rows. If there are fewer rows, the other elements are (0, 0), which is
-// the pair of no valid arc. The pairs are used only for hints, so there is no contract.
+// the pair of no valid arc. Hint.
 fn pairs_of(rows: &[RowLine]) -> [(i64, i64); AHEAD] {
     let mut pairs = [(0, 0); AHEAD];
     for (pair, next) in pairs.iter_mut().zip(rows) {

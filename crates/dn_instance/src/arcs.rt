@@ -1,7 +1,7 @@
 // Merges arcs into the bundles of their pairs as they arrive.
 ghost use Rattle.std.specs.Prelude.{◌≡◌, ◌&&◌, OnErr};
 ghost use Rattle.dn_instance.specs.State.ArcTakes.{AnswersArc, GainsArc, NeedsForArc};
-ghost use Rattle.dn_instance.specs.State.ItemFaults.{in_graph};
+ghost use Rattle.dn_instance.specs.State.ItemFaults.{in_graph, item_fault};
 
 use crate::refusal::ItemFault;
 use dn_bundle::{Bundle, BundleFault};
@@ -38,8 +38,20 @@ pub(crate) fn take_arc<B: Bundle>(
     }
     match table.add(alloc, pair, arc) {
         Ok(()) => Ok(()),
-        Err(BundleFault::Sum) => Err(ItemFault::Text(Code::SumTooLarge)),
-        Err(BundleFault::Memory) => Err(ItemFault::Memory),
+        Err(fault) => Err(item_fault(fault)),
+    }
+}
+
+// Returns the fault of an item whose arc a bundle does not take. Within its caller, it would be worked out for each
+// arc.
+#[cold]
+#[inline(never)]
+fn item_fault(fault: BundleFault) -> ItemFault
+    ensures { result ≡ item_fault fault }
+{
+    match fault {
+        BundleFault::Sum => ItemFault::Text(Code::SumTooLarge),
+        BundleFault::Memory => ItemFault::Memory,
     }
 }
 

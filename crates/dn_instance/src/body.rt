@@ -89,7 +89,7 @@ impl Body<TableSoFar<Curve>, TableSoFar<Total>, TableSoFar<Least>> {
         }
     }
 
-    // Looks up the pairs of the next rows together, if that saves time. This affects only the speed.
+    // Looks up the pairs of the next rows together, if that saves time. Hint.
     pub(crate) fn look_ahead(&mut self, alloc: Global, rows: &[RowLine])
         ensures { self.new ≡ self.old }
     {

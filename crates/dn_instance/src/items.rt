@@ -39,6 +39,7 @@ pub(crate) fn set_terminal(
 }
 
 // Takes the ID of an `s` line of an `ss` text. On a fault, nothing changes.
+#[inline(always)]
 pub(crate) fn push_source(ids: &mut Vec<i64>, id: &i64) -> Result<(), ItemFault>
     ensures answer { AnswersFault result (id_fault id.now) }
     ensures ok { OnOk result (ids.new.items ≡ ids.old.items ++ id.now ∷ []) }
@@ -55,6 +56,7 @@ pub(crate) fn push_source(ids: &mut Vec<i64>, id: &i64) -> Result<(), ItemFault>
 }
 
 // Takes the two IDs of a `q` line of a `p2p` text. On a fault, nothing changes.
+#[inline(always)]
 pub(crate) fn push_query(pairs: &mut Vec<(i64, i64)>, pair: (i64, i64)) -> Result<(), ItemFault>
     ensures answer { AnswersFault result (pair_fault pair) }
     ensures ok { OnOk result (pairs.new.items ≡ pairs.old.items ++ pair ∷ []) }
@@ -71,6 +73,7 @@ pub(crate) fn push_query(pairs: &mut Vec<(i64, i64)>, pair: (i64, i64)) -> Resul
 }
 
 // Takes a node with an `n` or a `v` line, and its value if it has one. On a fault, nothing changes.
+#[inline(always)]
 fn insert_node<V: Drop>(map: &mut NodeMap<V>, id: &i64, value: Option<V>) -> Result<(), ItemFault>
     requires { pos 0 ≤ℤ id.now }
     ensures answer { AnswersFault result (cond (is_known map.old id.now) (Some RepeatedNode) None) }
@@ -87,6 +90,7 @@ fn insert_node<V: Drop>(map: &mut NodeMap<V>, id: &i64, value: Option<V>) -> Res
 }
 
 // Takes the point of a `v` line of a `co` text. On a fault, nothing changes.
+#[inline(always)]
 pub(crate) fn insert_point(
     points: &mut NodeMap<(i64, i64)>,
     id: &i64,

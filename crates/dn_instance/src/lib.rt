@@ -4,8 +4,8 @@
 //!
 //! In the order of the data: `read` takes a text from memory or pulls it from a source, `reader` takes it in pieces,
 //! and `text_so_far` takes each line and checks what depends on the number and order of lines. `declared` is what the
-//! problem line declares, `marks` holds what `n` lines make, and `body` what counted lines make. `arcs` and `items`
-//! take one item each, and `ahead` looks up the pairs of the next arcs. `refusal` says why an item or a text is
+//! problem line declares, `node_descriptors` holds what `n` lines make, and `body` what counted lines make. `arcs` and
+//! `items` take one item each, and `ahead` looks up the pairs of the next arcs. `refusal` says why an item or a text is
 //! refused, and where. `held` is a parsed instance, and `view` shows it. `companion` judges a companion by its graph.
 //! `verdict` says where two instances first differ.
 #![tactic(auto)]
@@ -17,7 +17,7 @@ pub mod companion;
 pub mod declared;
 pub mod held;
 mod items;
-mod marks;
+mod node_descriptors;
 pub mod read;
 pub mod reader;
 pub mod refusal;

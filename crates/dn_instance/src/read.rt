@@ -9,7 +9,7 @@ ghost use Rattle.dn_instance.specs.State.SourceResults.{CopiesSource, HoldsCopie
 use crate::held::Held;
 use crate::reader::Reader;
 use crate::refusal::Refusal;
-use dn_line::Source;
+use dn_line::ByteSource;
 use std::alloc::Global;
 
 // How many pulls may give bytes before a source counts as endless.
@@ -45,7 +45,7 @@ pub fn read_text(alloc: Global, text: &[u8]) -> Result<Held, Refusal>
 /// `Text` with the first fault of the text. `Memory` only at a line without a fault. `Read` if the source failed.
 /// `Endless` if 2^40 pulls gave bytes and the source did not end. `Read` and `Endless` only if no complete line of the
 /// bytes given has a fault.
-pub fn read_from<S: Source>(alloc: Global, source: &mut S) -> Result<Held, Refusal>
+pub fn read_from<S: ByteSource>(alloc: Global, source: &mut S) -> Result<Held, Refusal>
     ensures held { IfOk result HoldsSome }
     ensures outcome { ReadsSource S.source source.old source.new result }
     ensures refusal { IfErr result IsOfReading }
@@ -61,7 +61,7 @@ pub fn read_from<S: Source>(alloc: Global, source: &mut S) -> Result<Held, Refus
 ///
 /// The errors of `read_from`. `Memory` also if an allocation for the copy of a piece fails; then no complete line of
 /// the earlier pieces has a fault.
-pub fn read_keep<S: Source>(
+pub fn read_keep<S: ByteSource>(
     alloc: Global,
     source: &mut S,
     text: &mut Vec<u8>,
@@ -118,7 +118,7 @@ impl Keep for Vec<u8> {
 }
 
 // Reads the text of a source to its end. Each piece is kept in `text` before it is read, if bytes are kept.
-fn read_all<S: Source, K: Keep>(
+fn read_all<S: ByteSource, K: Keep>(
     alloc: Global,
     source: &mut S,
     text: &mut K,
@@ -140,7 +140,7 @@ fn read_all<S: Source, K: Keep>(
 }
 
 // Feeds a new reader all pieces of a source. Each piece is kept in `text` before it is read, if bytes are kept.
-fn feed_all<S: Source, K: Keep>(
+fn feed_all<S: ByteSource, K: Keep>(
     source: &mut S,
     text: &mut K,
     reader: &mut Reader,

@@ -99,8 +99,8 @@ impl Reader {
         ensures line { self.new.line ≡ self.old.line }
         ensures refusal { KeepsRefusal self.old self.new result }
     {
-        for i in 0..rows.len() {
-            if let Err(fault) = self.text.take(self.alloc, head, &rows[i].row) {
+        for line in rows {
+            if let Err(fault) = self.text.take(self.alloc, head, &line.row) {
                 return Err(self.refuse(fault));
             }
         }

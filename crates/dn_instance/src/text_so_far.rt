@@ -14,7 +14,7 @@ ghost use Rattle.dn_instance.specs.State.TextsSoFar.{AfterLines, AfterRow, AtLin
 use crate::body::Body;
 use crate::declared::Declared;
 use crate::held::Held;
-use crate::marks::Marks;
+use crate::node_descriptors::NodeDescriptors;
 use crate::refusal::ItemFault;
 use dn_bundle::{Curve, Least, Total};
 use dn_line::{BLOCK, Code, Head, Kind, LineReader, Row, RowBlock, letter_named};
@@ -37,7 +37,7 @@ pub(crate) struct TextSoFar {
     // How many of these lines are still to come.
     due: i64,
     // What the `n` lines make.
-    marks: Marks,
+    descriptors: NodeDescriptors,
     // What the counted lines make.
     body: Option<Body<TableSoFar<Curve>, TableSoFar<Total>, TableSoFar<Least>>>,
 }
@@ -52,7 +52,7 @@ impl TextSoFar {
             nodes: 0,
             count: 0,
             due: 0,
-            marks: Marks::new(alloc),
+            descriptors: NodeDescriptors::new(alloc),
             body: None,
         }
     }
@@ -207,9 +207,11 @@ impl TextSoFar {
     {
         if self.has_terminals() {
             let letter = letter_named(&row.second);
-            self.marks.take_terminal(&self.nodes, &row.first, letter)
+            self.descriptors
+                .take_terminal(&self.nodes, &row.first, letter)
         } else {
-            self.marks.take_supply(&self.nodes, &row.first, &row.second)
+            self.descriptors
+                .take_supply(&self.nodes, &row.first, &row.second)
         }
     }
 
@@ -317,14 +319,14 @@ impl TextSoFar {
             nodes,
             count,
             due,
-            marks,
+            descriptors,
             body,
             ..
         } = self;
         let Some(body) = body else {
             return Err(Code::NoProblem);
         };
-        let Some(terminals) = marks.terminals(&body.kind()) else {
+        let Some(terminals) = descriptors.terminals(&body.kind()) else {
             drop(body);
             return Err(Code::MissingTerminal);
         };
@@ -332,7 +334,7 @@ impl TextSoFar {
             drop(body);
             return Err(Code::TooFewLines);
         }
-        Ok(Held::new(nodes, count, marks.supplies, terminals, body.end()))
+        Ok(Held::new(nodes, count, descriptors.supplies, terminals, body.end()))
     }
 }
 

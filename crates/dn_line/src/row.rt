@@ -44,7 +44,7 @@ pub(crate) struct RowBefore<'a> {
 }
 
 // A count of numbers that a line can have.
-pub(crate) trait Count {
+pub(crate) trait Width {
     // The count.
     ghost count: { ℕ };
 
@@ -68,7 +68,7 @@ pub(crate) trait Count {
 // One number.
 pub(crate) struct One;
 
-impl Count for One {
+impl Width for One {
     ghost count = { 1 };
 
     ghost few = { Prim.search rules };
@@ -77,7 +77,7 @@ impl Count for One {
 // Two numbers.
 pub(crate) struct Two;
 
-impl Count for Two {
+impl Width for Two {
     ghost count = { 2 };
 
     ghost few = { Prim.search rules };
@@ -86,7 +86,7 @@ impl Count for Two {
 // Three numbers.
 pub(crate) struct Three;
 
-impl Count for Three {
+impl Width for Three {
     ghost count = { 3 };
 
     ghost few = { Prim.search rules };
@@ -102,7 +102,7 @@ impl Count for Three {
 // Five numbers.
 pub(crate) struct Five;
 
-impl Count for Five {
+impl Width for Five {
     ghost count = { 5 };
 
     ghost few = { Prim.search rules };
@@ -119,7 +119,7 @@ const SHORT_LINE: usize = 2 + SHORT_THREE;
 // Reads the line that begins these bytes, if it is this letter and short numbers that fit these fields, with one space
 // between them. Returns none for any other line, and for too few bytes.
 #[inline(always)]
-pub(crate) fn short_row<'a, N: Count>(
+pub(crate) fn short_row<'a, N: Width>(
     letter: u8,
     fields: &[Field],
     bytes: &'a [u8],
@@ -147,7 +147,7 @@ pub(crate) fn short_row<'a, N: Count>(
 // has a fault. Within its caller it would take registers from the reading of short lines. It is compiled for each `N`,
 // for which the number of fields is a constant.
 #[inline(never)]
-pub(crate) fn any_row<'a, N: Count>(
+pub(crate) fn any_row<'a, N: Width>(
     letter: u8,
     fields: &[Field],
     bytes: &'a [u8],

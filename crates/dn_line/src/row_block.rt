@@ -6,7 +6,7 @@ ghost use Rattle.dn_line.specs.State.Rows.{AreNumeric, HasFields};
 
 use crate::kind::Kind;
 use crate::line_table::number_fields;
-use crate::row::{Count, Five, NO_ROW, One, Row, Three, Two, any_row, short_row};
+use crate::row::{Five, NO_ROW, One, Row, Three, Two, Width, any_row, short_row};
 use crate::word::Field;
 use std::marker::Model;
 
@@ -93,7 +93,7 @@ impl RowBlock {
 // Writes the rows of the lines at the beginning of these bytes that have this letter and numbers that fit these fields,
 // at most this many, and returns how many there are. By itself it needs fewer registers than within its caller.
 #[inline(never)]
-fn fill<N: Count>(
+fn fill<N: Width>(
     rows: &mut [RowLine; BLOCK],
     letter: u8,
     fields: &[Field],

@@ -1,4 +1,4 @@
--- Entries with rising keys: look-ups, insertions and appended lists.
+-- Entries with ascending keys: look-ups, insertions and appended lists.
 use Rattle.std.proofs.Common.{inl, inr, ◌≡◌, ℤ, List, [], ◌∷◌, ◌++◌, Bool, true, false, Some, None, refl, sym, ◌∙◌, arith, ◌<ℤ◌, Less, Greater, int_cmp}
 use Rattle.std.specs.List.{AllByRecursion}
 use Rattle.std.specs.List.Sorted.{IsStrictlySortedBy}
@@ -11,7 +11,7 @@ use Rattle.std.proofs.lemmas.Map.Keys.{sorted_head, sorted_tail}
 use Rattle.std.proofs.lemmas.Map.Lookups.{exact_signed}
 use Rattle.dn_arc_theory.proofs.PairLaws.{equal_is, int_self, reversed}
 use Rattle.dn_arc_theory.proofs.CanonsLaws.{by_cmp}
-use Rattle.dn_nodes.specs.State.Nodes.{at, Rises}
+use Rattle.dn_nodes.specs.State.Nodes.{at, Ascends}
 
 -- a key is itself
 pub at_self : (k : ℤ) → at k k ≡ true
@@ -40,24 +40,24 @@ pub before : (head x : ℤ) → head <ℤ x → int_cmp head x ≡ Less
 before head x h =
     by_cmp head x (λ c lt. c) (λ c eq. absurd (omega (arith, ints))) (λ c gt. absurd (omega (arith, ints)))
 
-pub rises_none : (X : Type 0) → Rises {V = X} []
+pub ascends_none : (X : Type 0) → Ascends {V = X} []
 unfolding IsStrictlySortedBy
-rises_none X = tt
+ascends_none X = tt
 
 module _ {X : Type 0} where
   -- all keys are above this one
   abbrev pub Above : ℤ → List (ℤ × X) → Type 0
   Above k es = AllByRecursion (λ (y : ℤ). int_cmp k y ≡ Less) (keys_of es)
 
-  pub rises_cons : (e : ℤ × X) (es : List (ℤ × X)) → Above e.0 es → Rises es → Rises (e ∷ es)
+  pub ascends_cons : (e : ℤ × X) (es : List (ℤ × X)) → Above e.0 es → Ascends es → Ascends (e ∷ es)
   unfolding IsStrictlySortedBy
-  rises_cons e es a r = (a, r)
+  ascends_cons e es a r = (a, r)
 
-  pub rises_head : (e : ℤ × X) (es : List (ℤ × X)) → Rises (e ∷ es) → Above e.0 es
-  rises_head e es r = sorted_head int_cmp e.0 (keys_of es) r
+  pub ascends_head : (e : ℤ × X) (es : List (ℤ × X)) → Ascends (e ∷ es) → Above e.0 es
+  ascends_head e es r = sorted_head int_cmp e.0 (keys_of es) r
 
-  pub rises_tail : (e : ℤ × X) (es : List (ℤ × X)) → Rises (e ∷ es) → Rises es
-  rises_tail e es r = sorted_tail int_cmp e.0 (keys_of es) r
+  pub ascends_tail : (e : ℤ × X) (es : List (ℤ × X)) → Ascends (e ∷ es) → Ascends es
+  ascends_tail e es r = sorted_tail int_cmp e.0 (keys_of es) r
 
   pub above_trans : (k l : ℤ) (es : List (ℤ × X)) → int_cmp k l ≡ Less → Above l es → Above k es
   above_trans k l [] h a = tt
@@ -69,17 +69,17 @@ module _ {X : Type 0} where
   above_insert k key v (e ∷ es) h a =
       by_cmp key e.0 (λ c lt. rw c (h, a)) (λ c eq. rw c a) (λ c gt. rw c (a.0, above_insert k key v es h a.1))
 
-  -- an insertion keeps the keys rising
-  pub insert_rises : (es : List (ℤ × X)) (k : ℤ) (v : X) → Rises es → Rises (insert_entry int_cmp es k v)
-  insert_rises [] k v r = rises_cons (k, v) [] tt r
-  insert_rises (e ∷ es) k v r =
+  -- an insertion keeps the keys ascending
+  pub insert_ascends : (es : List (ℤ × X)) (k : ℤ) (v : X) → Ascends es → Ascends (insert_entry int_cmp es k v)
+  insert_ascends [] k v r = ascends_cons (k, v) [] tt r
+  insert_ascends (e ∷ es) k v r =
       by_cmp k e.0
-      (λ c lt. rw c (rises_cons (k, v) (e ∷ es) (c, above_trans k e.0 es c (rises_head e es r)) r))
-      (λ c eq. rw c (rises_cons (e.0, v) es (rises_head e es r) (rises_tail e es r)))
+      (λ c lt. rw c (ascends_cons (k, v) (e ∷ es) (c, above_trans k e.0 es c (ascends_head e es r)) r))
+      (λ c eq. rw c (ascends_cons (e.0, v) es (ascends_head e es r) (ascends_tail e es r)))
       (λ c gt. rw c
-      (rises_cons e (insert_entry int_cmp es k v)
-      (above_insert e.0 k v es (reversed (int_cmp e.0 k) (sym c ∙ int_cmp_total.antisymm k e.0)) (rises_head e es r))
-      (insert_rises es k v (rises_tail e es r))))
+      (ascends_cons e (insert_entry int_cmp es k v)
+      (above_insert e.0 k v es (reversed (int_cmp e.0 k) (sym c ∙ int_cmp_total.antisymm k e.0)) (ascends_head e es r))
+      (insert_ascends es k v (ascends_tail e es r))))
 
   -- the look-up of the inserted key, and of others
   pub insert_found : (es : List (ℤ × X)) (k : ℤ) (v : X) → lookup (at k) (insert_entry int_cmp es k v) ≡ Some v
@@ -115,18 +115,18 @@ module _ {X : Type 0} where
   above_none k [] a = refl
   above_none k (e ∷ es) a = rw (at_less k e.0 a.0) (above_none k es a.1)
 
-  pub rises_right : (xs ys : List (ℤ × X)) → Rises (xs ++ ys) → Rises ys
-  rises_right [] ys r = r
-  rises_right (x ∷ xs) ys r = rises_right xs ys (rises_tail x (xs ++ ys) r)
+  pub ascends_right : (xs ys : List (ℤ × X)) → Ascends (xs ++ ys) → Ascends ys
+  ascends_right [] ys r = r
+  ascends_right (x ∷ xs) ys r = ascends_right xs ys (ascends_tail x (xs ++ ys) r)
 
   -- changing the value of a key that is there is an insertion
-  pub set_is : (es : List (ℤ × X)) (k : ℤ) (v w : X) → Rises es → lookup (at k) es ≡ Some v
+  pub set_is : (es : List (ℤ × X)) (k : ℤ) (v w : X) → Ascends es → lookup (at k) es ≡ Some v
       → set_value (at k) es w ≡ insert_entry int_cmp es k w
   set_is [] k v w r h = cc
   set_is (e ∷ es) k v w r h =
       by_cmp k e.0
-      (λ c lt. cc (rw (at_less k e.0 c, above_none k es (above_trans k e.0 es c (rises_head e es r))) at h))
-      (λ c eq. rw c refl) (λ c gt. rw (c, set_is es k v w (rises_tail e es r) (rw c at h)) refl)
+      (λ c lt. cc (rw (at_less k e.0 c, above_none k es (above_trans k e.0 es c (ascends_head e es r))) at h))
+      (λ c eq. rw c refl) (λ c gt. rw (c, set_is es k v w (ascends_tail e es r) (rw c at h)) refl)
 
   -- a key below all others is inserted at the beginning
   pub insert_first : (es : List (ℤ × X)) (k : ℤ) (w : X) → Above k es → insert_entry int_cmp es k w ≡ (k, w) ∷ es

@@ -7,9 +7,9 @@ use Rattle.std.proofs.lemmas.Bool.{cases_Bool}
 use Rattle.std.proofs.lemmas.Int.{ints}
 use Rattle.std.proofs.lemmas.List.{get_or-set_other}
 use Rattle.dn_arc_theory.proofs.CanonsLaws.{by_cmp}
-use Rattle.dn_nodes.specs.State.Nodes.{at, Rises}
+use Rattle.dn_nodes.specs.State.Nodes.{at, Ascends}
 use Rattle.dn_nodes.specs.State.Links.{direct, AreFar}
-use Rattle.dn_nodes.proofs.KeyLaws.{at_self, Above, above_none, rises_head, rises_tail, lookup_right}
+use Rattle.dn_nodes.proofs.KeyLaws.{at_self, Above, above_none, ascends_head, ascends_tail, lookup_right}
 use Rattle.dn_nodes.proofs.KeyLaws.{past, before, insert_first}
 
 -- the list has no links from the node of any of these entries on
@@ -220,12 +220,12 @@ clear_rest links i l (e ∷ es) a c = (
 
 -- an entry of the map moves to the list
 module _ (links : List ℕ) (i l : ℕ) (k : ℤ) (es rest : List (ℤ × ℕ)) (is : es ≡ (k, l) ∷ rest) (at_i : k ≡ pos i)
-    (lt : i < length links) (clear : Clear links es) (up : Rises es) where
+    (lt : i < length links) (clear : Clear links es) (up : Ascends es) where
   cleared : Clear links ((k, l) ∷ rest)
   cleared = rw is at clear
 
-  rising : Rises ((k, l) ∷ rest)
-  rising = rw is at up
+  ascending : Ascends ((k, l) ∷ rest)
+  ascending = rw is at up
 
   pub moved_same : (m : ℕ) → AreFar m es → direct 0 (set links i l) ++ rest ≡ direct 0 links ++ es
   moved_same m far = go l refl
@@ -241,22 +241,22 @@ module _ (links : List ℕ) (i l : ℕ) (k : ℤ) (es rest : List (ℤ × ℕ)) 
           (append_assoc (direct 0 links) ((pos i, suc x) ∷ []) rest)
 
   pub moved_clear : Clear (set links i l) rest
-  moved_clear = clear_rest links i l rest (rw at_i at (rises_head (k, l) rest rising)) cleared.1
+  moved_clear = clear_rest links i l rest (rw at_i at (ascends_head (k, l) rest ascending)) cleared.1
 
-  pub moved_rises : Rises rest
-  moved_rises = rises_tail (k, l) rest rising
+  pub moved_ascends : Ascends rest
+  moved_ascends = ascends_tail (k, l) rest ascending
 
   pub moved_far : (m : ℕ) → AreFar m es → AreFar m rest
   moved_far m far = let f : AreFar m ((k, l) ∷ rest) = rw is at far in f.1
 
 -- where the first entry of a map is beyond the list, all are
-pub far_all : (m n : ℕ) (es : List (ℤ × ℕ)) (e : ℤ × ℕ) → slice_get es 0 ≡ Some e → pos n ≤ℤ e.0 → Rises es
+pub far_all : (m n : ℕ) (es : List (ℤ × ℕ)) (e : ℤ × ℕ) → slice_get es 0 ≡ Some e → pos n ≤ℤ e.0 → Ascends es
     → AreFar m es
     → AreFar n es
 far_all m n [] e h le up far = tt
 far_all m n (x ∷ es) e h le up far =
     let le_x : pos n ≤ℤ x.0 = is_x x e h le in
-    ((le_x, far.0.1), others es (rises_head x es up) far.1)
+    ((le_x, far.0.1), others es (ascends_head x es up) far.1)
   where
     is_x : (y z : ℤ × ℕ) → Some y ≡ Some z → pos n ≤ℤ z.0 → pos n ≤ℤ y.0
     is_x y z g l = let s : y ≡ z = cc in rw s l

@@ -5,9 +5,9 @@ use Rattle.std.specs.List.{AllByRecursion, list_any}
 use Rattle.std.specs.Map.{keys_of, lookup}
 use Rattle.std.proofs.lemmas.Bool.{cases_Bool}
 use Rattle.dn_arc_theory.proofs.CanonsLaws.{by_cmp}
-use Rattle.dn_nodes.specs.State.Nodes.{Gains, Nodes, Rises, at, is_known, with_entry}
+use Rattle.dn_nodes.specs.State.Nodes.{Gains, Nodes, Ascends, at, is_known, with_entry}
 use Rattle.dn_nodes.specs.State.Links.{linked, with_value, value_at, valued, AreWithin, IsShort}
-use Rattle.dn_nodes.proofs.KeyLaws.{Above, above_none, above_trans, at_is, at_self, insert_first, insert_rises, rises_cons, rises_head, rises_none, rises_tail}
+use Rattle.dn_nodes.proofs.KeyLaws.{Above, above_none, above_trans, at_is, at_self, insert_first, insert_ascends, ascends_cons, ascends_head, ascends_none, ascends_tail}
 
 more_length : {X : Type 0} (es : List (ℤ × X)) (id : ℤ) (x : X) → lookup (at id) es ≡ None
     → length (insert_entry int_cmp es id x) ≡ length es + 1
@@ -65,16 +65,16 @@ module _ {V : Type 0} where
   above_valued k (e ∷ es) vs a =
       above_first k e.0 (value_at vs e.1) (valued es vs) a.0 (above_valued k es vs a.1)
 
-  rises_first : (l : ℤ) (o : Option V) (rest : List (ℤ × V)) → Above l rest → Rises rest
-      → Rises (with_value l o ++ rest)
-  rises_first l None rest a r = r
-  rises_first l (Some x) rest a r = rises_cons (l, x) rest a r
+  ascends_first : (l : ℤ) (o : Option V) (rest : List (ℤ × V)) → Above l rest → Ascends rest
+      → Ascends (with_value l o ++ rest)
+  ascends_first l None rest a r = r
+  ascends_first l (Some x) rest a r = ascends_cons (l, x) rest a r
 
-  pub rises_valued : (es : List (ℤ × ℕ)) (vs : List V) → Rises es → Rises (valued es vs)
-  rises_valued [] vs r = rises_none V
-  rises_valued (e ∷ es) vs r =
-      rises_first e.0 (value_at vs e.1) (valued es vs) (above_valued e.0 es vs (rises_head e es r))
-      (rises_valued es vs (rises_tail e es r))
+  pub ascends_valued : (es : List (ℤ × ℕ)) (vs : List V) → Ascends es → Ascends (valued es vs)
+  ascends_valued [] vs r = ascends_none V
+  ascends_valued (e ∷ es) vs r =
+      ascends_first e.0 (value_at vs e.1) (valued es vs) (above_valued e.0 es vs (ascends_head e es r))
+      (ascends_valued es vs (ascends_tail e es r))
 
   first_looked : (k : ℤ) (o : Option V) (rest : List (ℤ × V)) → Above k rest
       → lookup (at k) (with_value k o ++ rest) ≡ o
@@ -87,16 +87,16 @@ module _ {V : Type 0} where
   later_looked k l (Some x) rest h = rw h refl
 
   -- the value of a node is that at its link
-  pub looked : (id : ℤ) (es : List (ℤ × ℕ)) (vs : List V) → Rises es
+  pub looked : (id : ℤ) (es : List (ℤ × ℕ)) (vs : List V) → Ascends es
       → lookup (at id) (valued es vs) ≡ linked vs (lookup (at id) es)
   looked id [] vs r = refl
   looked id (e ∷ es) vs r = elim (cases_Bool (at id e.0)) [
     | inl t ↦
         let same = at_is id e.0 t in
         rw (same, at_self e.0)
-        (first_looked e.0 (value_at vs e.1) (valued es vs) (above_valued e.0 es vs (rises_head e es r)))
+        (first_looked e.0 (value_at vs e.1) (valued es vs) (above_valued e.0 es vs (ascends_head e es r)))
     | inr t ↦
-        rw t (later_looked id e.0 (value_at vs e.1) (valued es vs) t ∙ looked id es vs (rises_tail e es r))
+        rw t (later_looked id e.0 (value_at vs e.1) (valued es vs) t ∙ looked id es vs (ascends_tail e es r))
   ]
 
   -- ---- one more link
@@ -120,17 +120,17 @@ module _ {V : Type 0} where
   later_entry j k (Some x) None rest c = refl
   later_entry j k (Some x) (Some v) rest c = rw c refl
 
-  pub valued_more : (es : List (ℤ × ℕ)) (vs ws : List V) (id : ℤ) (n : ℕ) → Agree vs ws es → Rises es
+  pub valued_more : (es : List (ℤ × ℕ)) (vs ws : List V) (id : ℤ) (n : ℕ) → Agree vs ws es → Ascends es
       → lookup (at id) es ≡ None
       → valued (insert_entry int_cmp es id n) ws ≡ with_entry (valued es vs) id (value_at ws n)
   valued_more [] vs ws id n a r none = first_entry id (value_at ws n) [] tt
   valued_more (e ∷ es) vs ws id n a r none =
       by_cmp id e.0
-      (λ c lt. (let above : Above id (e ∷ es) = (c, above_trans id e.0 es c (rises_head e es r)) in
+      (λ c lt. (let above : Above id (e ∷ es) = (c, above_trans id e.0 es c (ascends_head e es r)) in
       rw (c, agree_valued (e ∷ es) vs ws a)
       (first_entry id (value_at ws n) (valued (e ∷ es) vs) (above_valued id (e ∷ es) vs above))))
       (λ c eq. cc (rw c at none))
-      (λ c gt. rw (c, a.0, valued_more es vs ws id n a.1 (rises_tail e es r) (rw c at none))
+      (λ c gt. rw (c, a.0, valued_more es vs ws id n a.1 (ascends_tail e es r) (rw c at none))
       (later_entry e.0 id (value_at vs e.1) (value_at ws n) (valued es vs) c))
 
   -- ---- one more value
@@ -176,7 +176,7 @@ module _ {V : Type 0} where
 
   -- what holds of links and values
   abbrev pub Fit : List (ℤ × ℕ) → List V → Type 0
-  Fit es vs = Rises es × AreWithin es vs × (length (valued es vs) ≡ length vs)
+  Fit es vs = Ascends es × AreWithin es vs × (length (valued es vs) ≡ length vs)
 
   -- the nodes with these links and values
   abbrev pub shown : List (ℤ × ℕ) → List V → Nodes V
@@ -205,7 +205,7 @@ module _ {V : Type 0} where
         let more = gained vs 1 (same_agree es vs) links in (
           more,
           (
-            rw links (insert_rises es id 1 fit.0),
+            rw links (insert_ascends es id 1 fit.0),
             rw links (within_more es vs vs id 1 (omega arith) (omega arith) fit.1),
             ap length more.entries ∙ ap (λ (nodes : Nodes V). length nodes.entries) (sym view) ∙ fit.2,
           ),
@@ -221,7 +221,7 @@ module _ {V : Type 0} where
         let one = more_length (valued es vs) id v (looked id es vs fit.0 ∙ ap (linked vs) none) in (
           more,
           (
-            rw links (insert_rises es id n fit.0),
+            rw links (insert_ascends es id n fit.0),
             rw links (within_more es vs ws id n (omega (arith, long)) (omega (arith, long, last)) fit.1),
             omega (arith, ap length (rw (← view) at more.entries), one, fit.2, long),
           ),

@@ -3,7 +3,7 @@ ghost use Rattle.std.specs.Prelude.{◌≡◌, ◌<◌, ◌≤◌, ◌+◌, ◌+
 ghost use Rattle.std.specs.Ordering.{int_cmp};
 ghost use Rattle.std.specs.Map.{lookup};
 ghost use Rattle.std.specs.BTreeMap.{insert_entry};
-ghost use Rattle.dn_nodes.specs.State.Nodes.{after, at, Rises};
+ghost use Rattle.dn_nodes.specs.State.Nodes.{after, at, Ascends};
 ghost use Rattle.dn_nodes.specs.State.Links.{direct, AreFar};
 
 use crate::walk::LinksIter;
@@ -29,13 +29,13 @@ pub(crate) struct Links {
 impl Model for Links {
     ghost use Rattle.std.specs.Prelude.{ℕ, ℤ, List, ◌++◌, ◌≤◌, length};
     ghost use Rattle.dn_nodes.specs.State.Links.{direct, AreFar, IsShort};
-    ghost use Rattle.dn_nodes.specs.State.Nodes.{Rises};
+    ghost use Rattle.dn_nodes.specs.State.Nodes.{Ascends};
 
     ghost Value = { List (ℤ × ℕ) };
 
     ghost view = { λ t. direct 0 t.links.items ++ t.above.entries };
 
-    ghost invariant = { λ t. AreFar (length t.links.items) t.above.entries × Rises t.above.entries
+    ghost invariant = { λ t. AreFar (length t.links.items) t.above.entries × Ascends t.above.entries
         × IsShort (length t.links.items) (length (direct 0 t.links.items ++ t.above.entries))
         × (t.count ≤ length (direct 0 t.links.items ++ t.above.entries)) };
 }
@@ -64,10 +64,10 @@ fn reach(
 ) -> Result<(), AllocError>
     requires beyond { length links.old.items ≤ place }
     requires far { AreFar (length links.old.items) above.old.entries }
-    requires rises { Rises above.old.entries }
+    requires ascends { Ascends above.old.entries }
     ensures same { direct 0 links.new.items ++ above.new.entries ≡ direct 0 links.old.items ++ above.old.entries }
     ensures far { AreFar (length links.new.items) above.new.entries }
-    ensures rising { Rises above.new.entries }
+    ensures ascending { Ascends above.new.entries }
     ensures ok { OnOk result (length links.new.items ≡ place + 1) }
     ensures err_links { OnErr result (links.new.items ≡ links.old.items) }
     ensures err_above { OnErr result (above.new.entries ≡ above.old.entries) }

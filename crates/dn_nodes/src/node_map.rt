@@ -2,7 +2,7 @@
 ghost use Rattle.std.specs.Prelude.{◌≡◌, ◌<◌, ◌≤ℤ◌, ◌^◌, pos, false, [], OnOk, OnErr, length};
 ghost use Rattle.std.specs.Iterator.{YieldsFirstBy, item_count};
 ghost use Rattle.std.specs.Option.{option_copied};
-ghost use Rattle.dn_nodes.specs.State.Nodes.{Gains, Rises, after, get, is_known, node_entry};
+ghost use Rattle.dn_nodes.specs.State.Nodes.{Gains, Ascends, after, get, is_known, node_entry};
 ghost use Rattle.dn_nodes.specs.State.Links.{linked};
 
 use crate::links::Links;
@@ -21,14 +21,14 @@ pub struct NodeMap<V: Drop> {
 impl<V: Drop> Model for NodeMap<V> {
     ghost use Rattle.std.specs.Prelude.{◌≡◌, length};
     ghost use Rattle.std.specs.Map.{keys_of};
-    ghost use Rattle.dn_nodes.specs.State.Nodes.{Nodes, Rises};
+    ghost use Rattle.dn_nodes.specs.State.Nodes.{Nodes, Ascends};
     ghost use Rattle.dn_nodes.specs.State.Links.{valued, AreWithin};
 
     ghost Value = { Nodes V };
 
     ghost view = { λ m. record { entries = valued m.links m.values.items; known = keys_of m.links } };
 
-    ghost invariant = { λ m. Rises m.links × AreWithin m.links m.values.items
+    ghost invariant = { λ m. Ascends m.links × AreWithin m.links m.values.items
         × (length (valued m.links m.values.items) ≡ length m.values.items) };
 }
 
@@ -76,7 +76,7 @@ impl<V: Drop> NodeMap<V> {
     /// Iterates over the nodes that have a value, by ascending node. This does not allocate.
     pub fn iter(&self) -> Nodes<'_, V>
         ensures value { result ≡ self.now.entries }
-        ensures rising { Rises self.now.entries }
+        ensures ascending { Ascends self.now.entries }
     {
         Nodes {
             links: self.links.iter(),
@@ -87,7 +87,7 @@ impl<V: Drop> NodeMap<V> {
     /// Iterates over the nodes after this one that have a value, by ascending node. This does not allocate.
     pub fn after(&self, node: &i64) -> Nodes<'_, V>
         ensures value { result ≡ after node.now self.now.entries }
-        ensures rising { Rises self.now.entries }
+        ensures ascending { Ascends self.now.entries }
     {
         let values = &self.values;
         Nodes {

@@ -78,7 +78,7 @@ module _ {B Arc : Type 0} (kind : ArcKind Arc) (AreWords : List Arc → Cells �
     pairs = listed_rows words lists table;
     are_pairs = record {
       entries = entries_listed table;
-      rising = rw (keys_listed table) stands.rising;
+      ascending = rw (keys_listed table) stands.ascending;
       meant = λ p.
           let both = none_both _ (lookup (same_pair p) table) (found_listed p table) in
           (λ h. (stands.lists_them.absent p).0 (both.0 h), λ h. both.1 ((stands.lists_them.absent p).1 h));

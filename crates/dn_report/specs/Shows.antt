@@ -54,7 +54,7 @@ cost_words arcs = forced_words (forced_units arcs) (forced_cost arcs) (length (f
 pub record ArePairRows {Arc : Type 0} (kind : ArcKind Arc) (AreWords : List Arc → Cells → Type 0)
     (arcs : List ((ℤ × ℤ) × Arc)) (rows : List Cells) : Type 0 where
   pub entries : List ((ℤ × ℤ) × Cells)
-  pub rising : IsStrictlySortedBy pair_cmp (keys_of entries)
+  pub ascending : IsStrictlySortedBy pair_cmp (keys_of entries)
   pub meant : (p : ℤ × ℤ) → (lookup (same_pair p) entries ≡ None) ↔ kind.Same (bundle p arcs) []
   pub words : (p : ℤ × ℤ) → IfSome (lookup (same_pair p) entries) (AreWords (bundle p arcs))
   pub rows_are : rows ≡ map (λ e. pair_row e.0 e.1) entries

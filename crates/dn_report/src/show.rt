@@ -12,7 +12,7 @@ use dn_instance::{Held, Table, View};
 use dn_sink::{LineBuffer, Sink, SinkFault};
 
 /// Puts the lines of `show`: the kind, the number of nodes and of counted lines, what else the kind has, and, for a
-/// graph, the ordered pairs whose arcs mean something, by rising pair. Each pair has its least length, its total
+/// graph, the ordered pairs whose arcs mean something, by ascending pair. Each pair has its least length, its total
 /// capacity, or its forced units, their cost and the number of costs with free capacity. Puts one line at a time, and
 /// then flushes the sink. Allocates nothing.
 ///

@@ -11,7 +11,7 @@ use crate::runs::{refuse_words, run};
 use dn_host::opened_files::{OpenedFiles, OpenedSource};
 use dn_host::{Files, Opener};
 use dn_instance::Refusal;
-use dn_line::Source;
+use dn_line::ByteSource;
 use dn_report::put_fault_line;
 use dn_sink::Sink;
 use std::alloc::Global;
@@ -38,7 +38,7 @@ pub fn run_on<'a, P: Opener, O: Sink, E: Sink>(
         let e = sink_run E.sink (err.old, err.new) in
         MatchResult words.now
         (λ ws. Ran (map string_bytes ws.items) (in_full (files_run ⟦<OpenedFiles<'a, P> as Files>⟧.files
-        ⟦<OpenedSource<P> as Source>⟧.source (files.old, files.new))) o e result)
+        ⟦<OpenedSource<P> as ByteSource>⟧.source (files.old, files.new))) o e result)
         (λ error. files.new ≡ files.old) }
 {
     match words {

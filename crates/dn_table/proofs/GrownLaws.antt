@@ -111,5 +111,5 @@ pub stands_as : {B Arc : Type 0} (kind : ArcKind Arc) (lists : B → List Arc) (
     (arcs : List ((ℤ × ℤ) × Arc)) → IsStrictlySortedBy pair_cmp (keys_of other)
     → ((p : ℤ × ℤ) → lookup (same_pair p) other ≡ lookup (same_pair p) table)
     → TableLists kind lists table arcs → TableStandsFor kind lists other arcs
-stands_as kind lists table other arcs rising same t =
-    record { rising = rising; lists_them = lists_as kind lists table other arcs same t }
+stands_as kind lists table other arcs ascending same t =
+    record { ascending = ascending; lists_them = lists_as kind lists table other arcs same t }

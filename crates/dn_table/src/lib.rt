@@ -6,5 +6,5 @@ mod entry_sum;
 pub mod table;
 pub mod table_so_far;
 
-pub use table::{Pairs, Table, Walk};
+pub use table::{Pairs, Prefetch, Table};
 pub use table_so_far::TableSoFar;

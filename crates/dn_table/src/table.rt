@@ -22,15 +22,15 @@ pub struct Table<B: Bundle> {
 
 /// Where a walk over the bundles of a table is, and how far they are touched.
 #[derive(Clone, Copy)]
-pub struct Walk {
+pub struct Prefetch {
     at: usize,
     due: usize,
 }
 
-impl Walk {
+impl Prefetch {
     /// Returns the beginning of a walk.
-    pub fn new() -> Walk {
-        Walk { at: 0, due: 0 }
+    pub fn new() -> Prefetch {
+        Prefetch { at: 0, due: 0 }
     }
 }
 
@@ -72,7 +72,7 @@ impl<B: Bundle> Table<B> {
     /// Iterates over the pairs that have a bundle, by ascending (src, dst). This does not allocate.
     pub fn pairs(&self) -> Pairs<'_, B>
         ensures value { result ≡ self.now }
-        ensures rising { IsStrictlySortedBy pair_cmp (keys_of self.now) }
+        ensures ascending { IsStrictlySortedBy pair_cmp (keys_of self.now) }
     {
         Pairs {
             rest: &self.entries,
@@ -89,15 +89,14 @@ impl<B: Bundle> Table<B> {
         }
     }
 
-    /// Touches the bundles after the one at `walk.at`, if those touched before were passed. This has no contract,
-    /// because it affects only the speed.
+    /// Touches the bundles after the one at `walk.at`, if those touched before were passed. Hint.
     #[inline(always)]
-    pub fn touch(&self, walk: Walk) -> Walk {
+    pub fn touch(&self, walk: Prefetch) -> Prefetch {
         let at = walk.at.saturating_add(1);
         if at < walk.due {
-            return Walk { at, due: walk.due };
+            return Prefetch { at, due: walk.due };
         }
-        Walk {
+        Prefetch {
             at,
             due: self.touch_from(at),
         }
@@ -130,7 +129,7 @@ impl<B: Bundle> Table<B> {
     /// Returns how many arcs the bundles list in a form, if this is below 2^64.
     pub fn arc_count(&self, form: Form) -> Option<u64>
         ensures count { CountsBelow (2 ^ 64) (entries_listed (λ b. length (B.bundle.listed form b)) self.now) result }
-        ensures rising { IsStrictlySortedBy pair_cmp (keys_of self.now) }
+        ensures ascending { IsStrictlySortedBy pair_cmp (keys_of self.now) }
     {
         count_arcs(&self.entries, form)
     }

@@ -27,8 +27,7 @@ pub struct TableSoFar<B: Bundle> {
 }
 
 // Touches the bundles at these hints, whose loads do not wait for each other, and returns the hints. The result depends
-// on what was read, so that it is read; but a number of a bundle is never the least of its type. This has no contract,
-// because it affects only the speed.
+// on what was read, so that it is read; but a number of a bundle is never the least of its type. Hint.
 fn touched<B: Bundle>(entries: &[((i64, i64), B)], hints: &[u32; AHEAD]) -> [u32; AHEAD] {
     let mut positions = *hints;
     for i in 0..AHEAD {
@@ -66,14 +65,13 @@ impl<B: Bundle> TableSoFar<B> {
         }
     }
 
-    /// Whether hints of the positions of the next pairs may save time, and all earlier hints are used. This has no
-    /// contract, because it affects only the speed.
+    /// Whether hints of the positions of the next pairs may save time, and all earlier hints are used. Hint.
     pub fn wants_hints(&self) -> bool {
         AHEAD <= self.used && self.index.is_scattered(self.entries.len())
     }
 
     /// Looks up these pairs together, if that saves time. They are likely the pairs of the next arcs, and the positions
-    /// found become hints. This affects only the speed.
+    /// found become hints. Hint.
     pub fn find_hints(&mut self, alloc: Global, pairs: &[(i64, i64); AHEAD])
         ensures { self.new ≡ self.old }
     {
@@ -225,7 +223,7 @@ impl<B: Bundle> TableSoFar<B> {
 
     /// Returns the table of these bundles. This does not allocate.
     pub fn end(self) -> Table<B>
-        ensures rising { IsStrictlySortedBy pair_cmp (keys_of result) }
+        ensures ascending { IsStrictlySortedBy pair_cmp (keys_of result) }
         ensures kept { (pair : ℤ × ℤ) → lookup (same_pair pair) result ≡ lookup (same_pair pair) self }
     {
         let TableSoFar {

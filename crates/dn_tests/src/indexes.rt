@@ -65,7 +65,7 @@ impl Listed {
         }
     }
 
-    // Whether the sorted entries rise, and each pair has its entry among them.
+    // Whether the sorted entries ascend, and each pair has its entry among them.
     fn sorts(self, pairs: &[(i64, i64)]) -> bool {
         let Listed { mut entries, index } = self;
         index.sort(&mut entries);
@@ -154,11 +154,11 @@ fn way_to_find_groups(alloc: Global, groups: Groups) -> Result<&'static str, All
 const SCATTERING: i64 = 0x1E37_79B9_7F4A_7C15;
 
 // How the pairs of groups are found at the end: the size of the groups, and of what numbers their tails and their heads
-// are multiples. Groups of more than 24 entries are linked, unless their heads rise.
+// are multiples. Groups of more than 24 entries are linked, unless their heads ascend.
 const GROUPS: [(i64, i64, i64, &str); 9] = [
-    // Tails that rise.
+    // Tails that ascend.
     (1, 1, 5, "in order"),
-    // One tail, and groups of few and of many heads, whose tails rise.
+    // One tail, and groups of few and of many heads, whose tails ascend.
     (150, 1, -1, "in order"),
     (150, 1, SCATTERING, "in order"),
     (10, 1, SCATTERING, "in order"),
@@ -166,7 +166,7 @@ const GROUPS: [(i64, i64, i64, &str); 9] = [
     // Tails that fall, one by one and in groups.
     (1, -1, 4, "scattered"),
     (40, -1, SCATTERING, "scattered"),
-    // Tails that rise and fall, near to each other and far apart.
+    // Tails that ascend and descend, near to each other and far apart.
     (1, SCATTERING, 1, "scattered"),
     (1, i64::MIN + 1, i64::MAX - 3, "scattered"),
 ];
@@ -200,12 +200,12 @@ fn way_to_find_again(alloc: Global, pairs: &[(i64, i64)]) -> Result<&'static str
 #[test]
 fn finds_again(rt: HostRuntime) -> Result<(), Fail> {
     let (size, tail, head, _) = GROUPS[0];
-    let rising = pairs_of(rt.alloc(), (size, tail, head))?;
-    assert!(rt; way_to_find_again(rt.alloc(), &rising) == Ok("scattered"));
+    let ascending = pairs_of(rt.alloc(), (size, tail, head))?;
+    assert!(rt; way_to_find_again(rt.alloc(), &ascending) == Ok("scattered"));
     Ok(())
 }
 
-// Pairs whose tails rise and fall, and that fall into one of 128 buckets.
+// Pairs whose tails ascend and descend, and that fall into one of 128 buckets.
 const COLLIDING: [(i64, i64); 28] = [
     (70, 1000),
     (6, 940),

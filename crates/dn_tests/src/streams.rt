@@ -1,6 +1,6 @@
 // Streams that fail once are not tried again by what reads or writes them, though they would go on.
 
-use dn_line::{FromRead, Source, SourceFault};
+use dn_line::{ByteSource, FromRead, SourceFault};
 use dn_sink::{Sink, SinkFault, ToWrite};
 use std::io;
 use std::io::{ErrorKind, Read, Write};
@@ -46,7 +46,7 @@ impl Write for FailsOnce {
 }
 
 // Returns the length of the next piece, which has at most four bytes.
-fn next_len<S: Source>(source: &mut S) -> Result<usize, SourceFault> {
+fn next_len<S: ByteSource>(source: &mut S) -> Result<usize, SourceFault> {
     source.pull(4)?;
     Ok(source.piece().len())
 }

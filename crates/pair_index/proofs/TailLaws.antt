@@ -63,12 +63,12 @@ module _ (heads next : List ℕ) (keys : List (ℤ × ℤ)) (links : Links heads
   falls_at at then inside e zero f = omega arith
   falls_at at then inside e (suc j) f =
       let on = (links.at_next at inside).there j (sym (f ∙ e)) in
-      let rises : (key_at keys at).1 <ℤ (key_at keys j).1 = on.1.1 in
+      let ascends : (key_at keys at).1 <ℤ (key_at keys j).1 = on.1.1 in
       let fewer : count_by (λ (k : ℤ × ℤ). lt_z (key_at keys j).1 k.1) keys < count_by
       (λ (k : ℤ × ℤ). lt_z (key_at keys at).1 k.1) keys =
       count_fewer (λ (k : ℤ × ℤ). lt_z (key_at keys at).1 k.1) (λ (k : ℤ × ℤ). lt_z (key_at keys j).1 k.1)
-      (λ k h. lt_trans (key_at keys at).1 (key_at keys j).1 k.1 rises h)
-      keys j (pos 0, pos 0) on.0 (lt_true (key_at keys at).1 (key_at keys j).1 rises) (lt_self (key_at keys j).1) in
+      (λ k h. lt_trans (key_at keys at).1 (key_at keys j).1 k.1 ascends h)
+      keys j (pos 0, pos 0) on.0 (lt_true (key_at keys at).1 (key_at keys j).1 ascends) (lt_self (key_at keys j).1) in
       omega arith
 
   -- a step along a chain decreases the measure

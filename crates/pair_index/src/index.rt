@@ -167,7 +167,7 @@ impl PairIndex {
     }
 
     /// Whether looking up pairs together may save time, because each look-up waits for memory of its own, or because
-    /// another way to find them would save time. This has no contract, because it affects only the speed.
+    /// another way to find them would save time. Hint.
     pub fn is_scattered(&self, entries: usize) -> bool {
         match &self.way {
             Way::Runs(runs) => runs.are_slow(entries),

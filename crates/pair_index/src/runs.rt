@@ -97,13 +97,12 @@ impl Runs {
         }
     }
 
-    // Whether so many pairs came again that an index finds them sooner. This has no contract, because it affects only
-    // the speed.
+    // Whether so many pairs came again that an index finds them sooner. Hint.
     pub(crate) fn are_slow(&self, entries: usize) -> bool {
         entries / 16 < self.repeats
     }
 
-    // Counts the pairs that come again from 0. This affects only the speed.
+    // Counts the pairs that come again from 0. Hint.
     pub(crate) fn count_anew(&mut self)
         ensures { (keys : List (ℤ × ℤ)) → ShowsRuns self.old keys → ShowsRuns self.new keys }
     {

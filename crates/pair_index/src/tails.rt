@@ -45,8 +45,7 @@ fn span(entries: usize) -> u64 {
     (entries / SPAN) as u64
 }
 
-// Whether at most half of the entries have a tail that is not near that of the entry before. This has no contract,
-// because it affects only the speed.
+// Whether at most half of the entries have a tail that is not near that of the entry before. Hint.
 pub(crate) fn are_near<X>(entries: &[((i64, i64), X)]) -> bool {
     let near = span(entries.len());
     let mut far = 0usize;
@@ -60,7 +59,7 @@ pub(crate) fn are_near<X>(entries: &[((i64, i64), X)]) -> bool {
 }
 
 // Whether at most half of these pairs have a tail that is not near that of the pair before, among this many entries.
-// This has no contract, because it affects only the speed.
+// Hint.
 pub(crate) fn are_near_pairs(pairs: &[(i64, i64); AHEAD], entries: usize) -> bool {
     let near = span(entries);
     let mut far = 0usize;
@@ -157,7 +156,7 @@ impl Tails {
     }
 
     // Whether the chains of tails remain the way. This is checked only when the links have no spare capacity, and then
-    // by whether pairs still come nearly in order. It has no contract, because it affects only the speed.
+    // by whether pairs still come nearly in order. Hint.
     pub(crate) fn stays<X>(&self, entries: &[((i64, i64), X)]) -> bool {
         self.next.len() < self.next.capacity() || are_near(entries)
     }
@@ -209,7 +208,7 @@ impl Tails {
     }
 
     // Returns a hint for each of these pairs. The chains are walked in parallel, so that the load for one pair does not
-    // wait for the load for another. This has no contract, because it affects only the speed.
+    // wait for the load for another. Hint.
     pub(crate) fn hints<X>(
         &self,
         entries: &[((i64, i64), X)],
@@ -235,8 +234,7 @@ impl Tails {
         positions
     }
 
-    // Returns the position after `position` in its chain, if the head at `position` is below that of `pair`. This has
-    // no contract, because it affects only the speed.
+    // Returns the position after `position` in its chain, if the head at `position` is below that of `pair`. Hint.
     fn past<X>(
         &self,
         entries: &[((i64, i64), X)],

@@ -63,7 +63,7 @@ pub record IsSound (units cost total : ℤ) (steps : List (ℤ × ℤ)) : Type 0
   pub mean : IsMean cost units
   pub whole : total ≡ units +ℤ steps_room steps
   pub most : total ≤ℤ pos (2 ^ 63 - 1)
-  pub rising : AreSteps steps
+  pub ascending : AreSteps steps
   pub fit : AllByRecursion (λ (step : ℤ × ℤ). FitsSigned w64 step.0) steps
 
 -- the fixed arcs as a list

@@ -57,7 +57,7 @@ pub record ArePart (amount cost : ℤ) (l r : ℤ × ℤ) : Type 0 where
 pub record AreWalks (amount cost : ℤ) (left right : List (ℤ × ℤ)) : Type 0 where
   pub some : pos 0 ≤ℤ amount
   pub mean : IsMean cost amount
-  pub left_rising : AreSteps left
-  pub right_rising : AreSteps right
+  pub left_ascending : AreSteps left
+  pub right_ascending : AreSteps right
   pub left_most : (amount +ℤ steps_room left) ≤ℤ pos (2 ^ 63 - 1)
   pub right_most : (amount +ℤ steps_room right) ≤ℤ pos (2 ^ 63 - 1)

@@ -305,8 +305,7 @@ fn add_to_two(alloc: Global, held: TwoCosts, arc: CostArc, total: i64) -> Result
 }
 
 impl Shape {
-    /// Reads numbers that lie in memory of their own, or returns 0 if there are none. This has no contract, because it
-    /// affects only the speed.
+    /// Reads numbers that lie in memory of their own, or returns 0 if there are none. Hint.
     #[inline(always)]
     pub(crate) fn touch(&self) -> i64 {
         match self {

@@ -7,12 +7,12 @@ use Rattle.dn_instance.specs.Instances.{Instance, MinCostFlow, MaxFlow, Shortest
 use Rattle.dn_instance.specs.State.Helds.{Contents, OfMin, OfMax, OfSp}
 use Rattle.dn_c.specs.State.Items.{flow_item, point_item, id_item, pair_item, left_items}
 use Rattle.dn_c.specs.State.Outputs.{CopiesGraph, CountsGraph}
-use Rattle.dn_c.specs.State.Places.{cost_at, cap_at, length_at}
+use Rattle.dn_c.specs.State.Cursors.{cost_at, cap_at, length_at}
 use Rattle.dn_c.specs.State.Rows.{rows_by}
 use Rattle.dn_c.specs.State.Walks.{IsLeftAfter}
 use Rattle.dn_c.specs.declared.arcs.Arc.{Arc}
 use Rattle.dn_c.specs.declared.items.Item.{Item}
-use Rattle.dn_c.specs.declared.place.Place.{Place}
+use Rattle.dn_c.specs.declared.cursor.Cursor.{Cursor}
 use Rattle.dn_c.specs.declared.status.Count.{Count}
 
 -- the arcs of an instance in their order, each with the numbers of its line; a companion has none
@@ -33,52 +33,52 @@ instance_items (Sources ids) = map id_item ids
 instance_items (Queries pairs) = map pair_item pairs
 instance_items (Coordinates points) = map point_item points
 
--- the place of zeros
-abbrev pub first_place : Place
-first_place = record { pairs = 0; within = 0; a = pos 0; b = pos 0; c = pos 0 }
+-- the cursor of zeros
+abbrev pub first_cursor : Cursor
+first_cursor = record { pairs = 0; within = 0; a = pos 0; b = pos 0; c = pos 0 }
 
--- these arcs of the contents in this form are left after the place; of a companion none are
-abbrev pub IsLeftOf : Form → Contents → Place → List Arc → Type 0
-IsLeftOf form (OfMin flows table) place rows = IsLeftAfter costs.numbers (curve_arcs form) cost_at table place rows
-IsLeftOf form (OfMax source sink table) place rows =
-    IsLeftAfter capacities.numbers total_arcs cap_at table place rows
-IsLeftOf form (OfSp table) place rows = IsLeftAfter lengths.numbers least_arcs length_at table place rows
-IsLeftOf form _ place rows = rows ≡ []
+-- these arcs of the contents in this form are left after the cursor; of a companion none are
+abbrev pub IsLeftOf : Form → Contents → Cursor → List Arc → Type 0
+IsLeftOf form (OfMin flows table) cursor rows = IsLeftAfter costs.numbers (curve_arcs form) cost_at table cursor rows
+IsLeftOf form (OfMax source sink table) cursor rows =
+    IsLeftAfter capacities.numbers total_arcs cap_at table cursor rows
+IsLeftOf form (OfSp table) cursor rows = IsLeftAfter lengths.numbers least_arcs length_at table cursor rows
+IsLeftOf form _ cursor rows = rows ≡ []
 
--- a call that copies arcs: `out` before and after it, the place after it, and what it returned
+-- a call that copies arcs: `out` before and after it, the cursor after it, and what it returned
 pub record Call : Type 0 where
   pub old : List Arc
   pub new : List Arc
-  pub place : Place
+  pub cursor : Cursor
   pub result : Count
 
 -- the arcs that the call copied
 abbrev pub copied : Call → List Arc
 copied call = take call.result.count call.new
 
--- each call does this from the place after the call before it, and only the last one must copy fewer arcs than there
+-- each call does this from the cursor after the call before it, and only the last one must copy fewer arcs than there
 -- is room for
-abbrev pub Walks : (Place → Call → Type 0) → Place → List Call → Type 0
-Walks Copies place [] = ⊥
-Walks Copies place (call ∷ []) = Copies place call × call.result.count < length call.old
-Walks Copies place (call ∷ next ∷ rest) = Copies place call × Walks Copies call.place (next ∷ rest)
+abbrev pub Walks : (Cursor → Call → Type 0) → Cursor → List Call → Type 0
+Walks Copies cursor [] = ⊥
+Walks Copies cursor (call ∷ []) = Copies cursor call × call.result.count < length call.old
+Walks Copies cursor (call ∷ next ∷ rest) = Copies cursor call × Walks Copies call.cursor (next ∷ rest)
 
--- each call copies arcs of the contents in this form from the place after the call before it, until one copies fewer
+-- each call copies arcs of the contents in this form from the cursor after the call before it, until one copies fewer
 -- than there is room for
-abbrev pub WalksGraph : Form → Contents → Place → List Call → Type 0
+abbrev pub WalksGraph : Form → Contents → Cursor → List Call → Type 0
 WalksGraph form contents =
     Walks
-    (λ place call. CopiesGraph form contents place call.place call.old call.new call.result)
+    (λ cursor call. CopiesGraph form contents cursor call.cursor call.old call.new call.result)
 
 -- calls get the arcs and the items of this instance out of the contents in this form
 pub record GivesOut (form : Form) (contents : Contents) (J : Instance) : Type 0 where
-  -- its arcs are left after the place of zeros
-  pub first : IsLeftOf form contents first_place (instance_rows J)
+  -- its arcs are left after the cursor of zeros
+  pub first : IsLeftOf form contents first_cursor (instance_rows J)
   -- and calls from there on, until one copies fewer arcs than there is room for, copy them
-  pub walk : (calls : List Call) → WalksGraph form contents first_place calls
+  pub walk : (calls : List Call) → WalksGraph form contents first_cursor calls
       → flat_map copied calls ≡ instance_rows J
   -- dnorm_arc_count tells how many they are, if there are fewer than 2^64
   pub count : (result : Count) → CountsGraph form contents result → result.code ≡ 0
       → result.count ≡ length (instance_rows J)
-  -- its items are left after the place of zeros, which each call of dnorm_items moves behind what it copies
-  pub items : left_items contents first_place ≡ instance_items J
+  -- its items are left after the cursor of zeros, which each call of dnorm_items moves behind what it copies
+  pub items : left_items contents first_cursor ≡ instance_items J

@@ -8,14 +8,14 @@ use Rattle.dn_instance.specs.declared.verdict.Verdict.TheVariants as Verdicts
 use Rattle.dn_compare.specs.FirstDifference.{IsFirstDifference}
 use Rattle.dn_c.specs.State.Facts.{kind_number}
 use Rattle.dn_c.specs.declared.difference.Difference.{Difference}
-use Rattle.dn_c.specs.declared.difference.Value.{Value}
+use Rattle.dn_c.specs.declared.difference.WideNumber.{WideNumber}
 use Rattle.dn_c.specs.declared.work.Work.{Work}
 use Rattle.dn_c.specs.declared.work.Work.TheVariants as Works
 
 -- the value is that of this number, in two halves; there is none without a number
-abbrev pub IsValue : Option ℤ → Value → Type 0
-IsValue None v = v ≡ record { known = false; high = pos 0; low = 0 }
-IsValue (Some n) v = (v.known ≡ true) × (v.high *ℤ pos (2 ^ 64) +ℤ pos v.low ≡ n)
+abbrev pub IsWideNumber : Option ℤ → WideNumber → Type 0
+IsWideNumber None v = v ≡ record { known = false; high = pos 0; low = 0 }
+IsWideNumber (Some n) v = (v.known ≡ true) × (v.high *ℤ pos (2 ^ 64) +ℤ pos v.low ≡ n)
 
 -- a difference of this sort, at a node or an ordered pair, or at an item, or from an amount on, with these values
 pub record TellsVerdict (what : ℕ) (at to : ℤ) (index : ℕ) (amount : ℤ) (left right : Option ℤ) (d : Difference)
@@ -25,8 +25,8 @@ pub record TellsVerdict (what : ℕ) (at to : ℤ) (index : ℕ) (amount : ℤ) 
   pub to_is : d.to ≡ to
   pub index_is : d.index ≡ index
   pub amount_is : d.amount ≡ amount
-  pub left_is : IsValue left d.left
-  pub right_is : IsValue right d.right
+  pub left_is : IsWideNumber left d.left
+  pub right_is : IsWideNumber right d.right
 
 -- a difference of this sort of the whole instances, with these values
 abbrev pub OfWhole : ℕ → Option ℤ → Option ℤ → Difference → Type 0

@@ -1,11 +1,11 @@
 -- What C gets of an instance beside its arcs, an item for each line.
 use Rattle.std.specs.Prelude.{◌<◌, ◌^◌, ℤ, pos, List, [], ◌∷◌, map, drop, length, cond, nat_eq, Some, None}
-use Rattle.dn_nodes.specs.State.Nodes.{after, Rises}
+use Rattle.dn_nodes.specs.State.Nodes.{after, Ascends}
 use Rattle.dn_instance.specs.State.Helds.{Contents, OfMin, OfMax, OfSp, OfSs, OfP2p, OfCo}
 use Rattle.dn_c.specs.declared.items.Item.{Item}
 use Rattle.dn_c.specs.declared.items.ItemsLeft.{ItemsLeft}
 use Rattle.dn_c.specs.declared.items.ItemsLeft.TheVariants as Lefts
-use Rattle.dn_c.specs.declared.place.Place.{Place}
+use Rattle.dn_c.specs.declared.cursor.Cursor.{Cursor}
 
 -- the flow of a node
 abbrev pub flow_item : ℤ × ℤ → Item
@@ -41,18 +41,18 @@ items_left (Lefts.Pairs pairs) = map pair_item pairs.now
 items_left (Lefts.Terminals (Some p)) = pair_item p ∷ []
 items_left (Lefts.Terminals None) = []
 
--- the entries of a map that are left after a place between items: those after the last ID before it
-abbrev pub nodes_left : {V : Type 0} → Place → List (ℤ × V) → List (ℤ × V)
-nodes_left place es = cond (nat_eq place.within 0) es (after place.a es)
+-- the entries of a map that are left after a cursor between items: those after the last ID before it
+abbrev pub nodes_left : {V : Type 0} → Cursor → List (ℤ × V) → List (ℤ × V)
+nodes_left cursor es = cond (nat_eq cursor.within 0) es (after cursor.a es)
 
--- the items of an instance that are left after a place
-abbrev pub left_items : Contents → Place → List Item
-left_items (OfMin flows table) place = map flow_item (nodes_left place flows)
-left_items (OfCo points) place = map point_item (nodes_left place points)
-left_items contents place = drop place.pairs (listed_items contents)
+-- the items of an instance that are left after a cursor
+abbrev pub left_items : Contents → Cursor → List Item
+left_items (OfMin flows table) cursor = map flow_item (nodes_left cursor flows)
+left_items (OfCo points) cursor = map point_item (nodes_left cursor points)
+left_items contents cursor = drop cursor.pairs (listed_items contents)
 
--- the nodes of a map rise, and a list has fewer than 2^64 elements
+-- the nodes of a map ascend, and a list has fewer than 2^64 elements
 abbrev pub IsListed : Contents → Type 0
-IsListed (OfMin flows table) = Rises flows
-IsListed (OfCo points) = Rises points
+IsListed (OfMin flows table) = Ascends flows
+IsListed (OfCo points) = Ascends points
 IsListed contents = length (listed_items contents) < 2 ^ 64

@@ -12,9 +12,9 @@ use Rattle.dn_instance.specs.declared.refusal.Refusal.{Refusal}
 use Rattle.dn_canon.specs.State.ListedArcs.{listed_arcs}
 use Rattle.dn_canon.specs.State.Runs.{TextOutcome}
 use Rattle.dn_c.specs.State.Items.{left_items}
-use Rattle.dn_c.specs.State.Places.{cost_at, cap_at, length_at}
+use Rattle.dn_c.specs.State.Cursors.{cost_at, cap_at, length_at}
 use Rattle.dn_c.specs.State.Walks.{CopiesFrom}
-use Rattle.dn_c.specs.declared.place.Place.{Place}
+use Rattle.dn_c.specs.declared.cursor.Cursor.{Cursor}
 use Rattle.dn_table.specs.State.Tables.{CountsBelow}
 use Rattle.dn_c.specs.declared.items.Item.{Item}
 use Rattle.dn_c.specs.State.Statuses.{fine, wrong_call, refused_with, fine_count, wrong_count}
@@ -29,12 +29,12 @@ abbrev pub form_numbered : ℕ → Form
 form_numbered n = cond (nat_eq n 2) Two One
 
 -- the handle is not for the call, and nothing has changed
-abbrev pub CopiesNone : Place → Place → List Arc → List Arc → Count → Type 0
+abbrev pub CopiesNone : Cursor → Cursor → List Arc → List Arc → Count → Type 0
 CopiesNone old new old_out out result = (result ≡ wrong_count) × (new ≡ old) × (out ≡ old_out)
 
--- canonical arcs of a graph in this form are copied from the old place on, and the new place is behind them; a
+-- canonical arcs of a graph in this form are copied from the old cursor on, and the new cursor is behind them; a
 -- companion has no arcs, so the handle is not for the call
-abbrev pub CopiesGraph : Form → Contents → Place → Place → List Arc → List Arc → Count → Type 0
+abbrev pub CopiesGraph : Form → Contents → Cursor → Cursor → List Arc → List Arc → Count → Type 0
 CopiesGraph form (OfMin flows table) old new old_out out result =
     CopiesFrom (λ (a : CostArc). a.low ∷ a.cap ∷ a.cost ∷ []) (curve_arcs form) cost_at table old new (length old_out)
     out result
@@ -44,9 +44,9 @@ CopiesGraph form (OfSp table) old new old_out out result =
     CopiesFrom (λ (a : LengthArc). a.length ∷ []) least_arcs length_at table old new (length old_out) out result
 CopiesGraph form _ old new old_out out result = CopiesNone old new old_out out result
 
--- canonical arcs of the instance of a work are copied from the old place on, as many as there is room for, and the new
--- place is behind them; for any other work nothing changes
-abbrev pub CopiesHeld : Option Work → ℕ → Place → Place → List Arc → List Arc → Count → Type 0
+-- canonical arcs of the instance of a work are copied from the old cursor on, as many as there is room for, and the new
+-- cursor is behind them; for any other work nothing changes
+abbrev pub CopiesHeld : Option Work → ℕ → Cursor → Cursor → List Arc → List Arc → Count → Type 0
 CopiesHeld (Some (Works.Read held _)) form old new old_out out result =
     CopiesGraph (form_numbered form) held.contents old new old_out out result
 CopiesHeld _ form old new old_out out result = CopiesNone old new old_out out result
@@ -101,10 +101,10 @@ PrintsHeld (Some (Works.Read held _)) form None new status =
     ⊎ ((new ≡ None) × ((e : Refusal) × (status ≡ refused_with e) × HasText held (form_numbered form) (Err e)))
 PrintsHeld work form None new status = (new ≡ None) × (status ≡ wrong_call)
 
--- of the items of the instance that are left after the old place, the first are copied, as many as there is room for,
--- and the others are left after the new place; any other work has none
-abbrev pub CopiesItems : Option Work → Place → Place → List Item → List Item → Count → Type 0
-CopiesItems (Some (Works.Read held _)) old_place place old new result =
-    Copies (left_items held.contents old_place) old new result
-    × (left_items held.contents place ≡ drop result.count (left_items held.contents old_place))
-CopiesItems _ old_place place old new result = IsIdle old new result × (place ≡ old_place)
+-- of the items of the instance that are left after the old cursor, the first are copied, as many as there is room for,
+-- and the others are left after the new cursor; any other work has none
+abbrev pub CopiesItems : Option Work → Cursor → Cursor → List Item → List Item → Count → Type 0
+CopiesItems (Some (Works.Read held _)) old_cursor cursor old new result =
+    Copies (left_items held.contents old_cursor) old new result
+    × (left_items held.contents cursor ≡ drop result.count (left_items held.contents old_cursor))
+CopiesItems _ old_cursor cursor old new result = IsIdle old new result × (cursor ≡ old_cursor)

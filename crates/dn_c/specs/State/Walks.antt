@@ -2,10 +2,10 @@
 use Rattle.std.specs.Prelude.{◌≡◌, ◌+◌, ℕ, ℤ, List, [], ◌∷◌, ◌++◌, take, drop, length, slice_get, Option, None, Some, MatchOption, All, Contains}
 use Rattle.dn_arc_theory.specs.State.Bundles.{IsAfter}
 use Rattle.dn_canon.specs.State.ListedArcs.{placed, listed_arcs}
-use Rattle.dn_c.specs.State.Places.{last_before}
+use Rattle.dn_c.specs.State.Cursors.{last_before}
 use Rattle.dn_c.specs.State.Rows.{rows_by}
 use Rattle.dn_c.specs.declared.arcs.Arc.{Arc}
-use Rattle.dn_c.specs.declared.place.Place.{Place}
+use Rattle.dn_c.specs.declared.cursor.Cursor.{Cursor}
 use Rattle.dn_c.specs.declared.status.Count.{Count}
 
 -- the option is the element after the last one that was taken, or the first if none was
@@ -47,17 +47,17 @@ CopiesListed {A = A} numbers lists table out n =
     (arcs : List ((ℤ × ℤ) × A)) × All (Contains (listed_arcs lists table)) arcs × HasRows out (rows_by numbers arcs)
     × (n ≡ length arcs)
 
--- these rows are left of a table after the place: it is one that begins a pair, or it is after an arc of its pair
-abbrev pub IsLeftAfter : {B A : Type 0} → (A → List ℤ) → (B → List A) → (Place → A) → List ((ℤ × ℤ) × B) → Place
+-- these rows are left of a table after the cursor: it is one that begins a pair, or it is after an arc of its pair
+abbrev pub IsLeftAfter : {B A : Type 0} → (A → List ℤ) → (B → List A) → (Cursor → A) → List ((ℤ × ℤ) × B) → Cursor
     → List Arc → Type 0
-IsLeftAfter {A = A} numbers lists arc table place rows =
-    (left : List ((ℤ × ℤ) × A)) × IsLeft lists (drop place.pairs table) (last_before arc place) left
+IsLeftAfter {A = A} numbers lists arc table cursor rows =
+    (left : List ((ℤ × ℤ) × A)) × IsLeft lists (drop cursor.pairs table) (last_before arc cursor) left
     × (rows ≡ rows_by numbers left)
 
--- wherever these rows are left after the old place, the first n of them are copied, as many as there is room for, and
--- the others are left after the new place. After any other place, some arcs of the table are copied, or none
-abbrev pub CopiesFrom : {B A : Type 0} → (A → List ℤ) → (B → List A) → (Place → A) → List ((ℤ × ℤ) × B) → Place → Place
-    → ℕ → List Arc → Count → Type 0
+-- wherever these rows are left after the old cursor, the first n of them are copied, as many as there is room for, and
+-- the others are left after the new cursor. After any other cursor, some arcs of the table are copied, or none
+abbrev pub CopiesFrom : {B A : Type 0} → (A → List ℤ) → (B → List A) → (Cursor → A) → List ((ℤ × ℤ) × B) → Cursor
+    → Cursor → ℕ → List Arc → Count → Type 0
 CopiesFrom numbers lists arc table old new room out result =
     (result.code ≡ 0)
     × ((rows : List Arc) → IsLeftAfter numbers lists arc table old rows

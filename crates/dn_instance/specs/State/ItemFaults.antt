@@ -13,6 +13,8 @@ use Rattle.dn_line.specs.declared.line.Line.{Line}
 use Rattle.dn_line.specs.declared.word.Word.{Word}
 use Rattle.dn_instance.specs.Items.{problem_of, counted}
 use Rattle.dn_instance.specs.TextFaults.{is_arc, is_full, is_counted_letter, is_node_letter}
+use Rattle.dn_bundle_trait.specs.declared.bundle.BundleFault.{BundleFault}
+use Rattle.dn_bundle_trait.specs.declared.bundle.BundleFault.TheVariants as BundleFaults
 use Rattle.dn_instance.specs.declared.refusal.ItemFault.{ItemFault}
 use Rattle.dn_instance.specs.declared.refusal.ItemFault.TheVariants.{Text, Memory}
 
@@ -21,6 +23,11 @@ abbrev pub AnswersFault : Result (Unit {0}) ItemFault → Option Code → Type 0
 AnswersFault (Ok x) fault = fault ≡ None
 AnswersFault (Err (Text code)) fault = fault ≡ Some code
 AnswersFault (Err Memory) fault = fault ≡ None
+
+-- the fault of an item whose arc a bundle does not take
+abbrev pub item_fault : BundleFault → ItemFault
+item_fault BundleFaults.Sum = Text SumTooLarge
+item_fault BundleFaults.Memory = Memory
 
 -- an `n` line follows an `a` line
 abbrev pub is_late_node : List Line → List Word → Bool

@@ -20,7 +20,7 @@ use Rattle.dn_instance.specs.EntryCount.{entries_as}
 use Rattle.dn_instance.specs.State.Bodies.{ListHolds, MapHolds, TableHolds}
 use Rattle.dn_instance.specs.declared.body.Body.{Body}
 use Rattle.dn_instance.specs.declared.body.Body.TheVariants as Bodies
-use Rattle.dn_instance.specs.declared.marks.Marks.{Marks}
+use Rattle.dn_instance.specs.declared.node_descriptors.NodeDescriptors.{NodeDescriptors}
 
 -- what the counted lines of a text make; bundles are in any order while lines arrive, and sorted by pair at the end
 abbrev pub AnyBody : Type 0
@@ -52,7 +52,7 @@ BodyCounts b n =
 
 -- the table is sorted by ascending pair, and has the bundles of the other table
 pub record SortsTable {B : Type 0} (old new : List ((ℤ × ℤ) × B)) : Type 0 where
-  pub rising : IsStrictlySortedBy pair_cmp (keys_of new)
+  pub ascending : IsStrictlySortedBy pair_cmp (keys_of new)
   pub kept : (p : ℤ × ℤ) → lookup (same_pair p) new ≡ lookup (same_pair p) old
 
 -- the new body is the old one, with its bundles sorted by ascending pair
@@ -71,11 +71,11 @@ terminals_of Kinds.Max (Some source) (Some sink) = Some (source, sink)
 terminals_of Kinds.Max _ _ = None
 terminals_of _ source sink = Some (pos 0, pos 0)
 
--- the `n` lines among these items make these marks
-pub record MarksHold (marks : Marks) (items : List Line) : Type 0 where
-  pub supplies : MapHolds supply_in has_supply marks.supplies items
-  pub source_is : marks.source ≡ terminal_of S items
-  pub sink_is : marks.sink ≡ terminal_of T items
+-- the `n` lines among these items make these descriptors
+pub record DescriptorsHold (descriptors : NodeDescriptors) (items : List Line) : Type 0 where
+  pub supplies : MapHolds supply_in has_supply descriptors.supplies items
+  pub source_is : descriptors.source ≡ terminal_of S items
+  pub sink_is : descriptors.sink ≡ terminal_of T items
 
 -- the kind is known, and texts of this kind have arcs
 abbrev pub is_graph : Option Kind → Bool

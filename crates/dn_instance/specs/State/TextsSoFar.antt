@@ -25,7 +25,7 @@ use Rattle.dn_instance.specs.Items.{Problem, problem_in, problem_of, kind_known,
 use Rattle.dn_instance.specs.Readers.{SpellsNeed}
 use Rattle.dn_instance.specs.TextFaults.{is_arc, line_fault, line_tests, order_tests}
 use Rattle.dn_instance.specs.Texts.{items_of, IsClean}
-use Rattle.dn_instance.specs.State.TextParts.{AnyBody, BodyHolds, MarksHold, body_kind, is_graph}
+use Rattle.dn_instance.specs.State.TextParts.{AnyBody, BodyHolds, DescriptorsHold, body_kind, is_graph}
 use Rattle.dn_instance.specs.State.Bodies.{TookRow}
 use Rattle.dn_instance.specs.State.RowHeads.{HasRoomFor, HasSigns, run_head}
 use Rattle.dn_instance.specs.declared.refusal.ItemFault.{ItemFault}
@@ -51,7 +51,7 @@ pub record HasRead (t : TextSoFar) (items : List Line) : Type 0 where
   pub due_is : pos (counted items) +ℤ t.due ≡ t.count
   pub due_some : pos 0 ≤ℤ t.due
   pub arcs_are : is_graph (text_kind t) ≡ true → list_any is_arc items ≡ int_lt t.due t.count
-  pub marks_hold : MarksHold t.marks items
+  pub descriptors_hold : DescriptorsHold t.descriptors items
   pub body_holds : HoldsBody t.body items
 
 -- what a line reads as after these items, where the faults of its item are not checked

@@ -45,7 +45,7 @@ worked_form_one = record {
   each_fixed = search rules;
   near = refl;
   each_free = search rules;
-  rising = search rules;
+  ascending = search rules;
 }
 
 pub worked_same_one : SameCurve worked_one worked

@@ -27,7 +27,7 @@ use Rattle.dn_compare.specs.FirstDifference.{IsFirstDifference}
 use Rattle.dn_compare.specs.State.Partings.{IsPairVerdict, ItemsPartAt, IsListVerdict}
 use Rattle.dn_instance.specs.declared.verdict.Verdict.{Verdict}
 use Rattle.dn_instance.specs.declared.verdict.Verdict.TheVariants as Verdicts
-use Rattle.dn_compare.proofs.WalkLaws.{key_is, same_entries}
+use Rattle.dn_compare.proofs.PeekedLaws.{key_is, same_entries}
 use Rattle.dn_compare.proofs.ArcPartings.{exact_pair}
 use Rattle.dn_canon.proofs.OrderLaws.{all_at_pair}
 use Rattle.dn_compare.proofs.VerdictLaws.{same_first}

@@ -31,7 +31,7 @@ module _ {Arc : Type 0} (kind : ArcKind Arc) (AreWords : List Arc → Cells → 
     pub pair_rows : IsStrictlySortedBy pair_cmp (keys_of entries) → AllByRecursion ListedAt (keys_of arcs)
         → ((p : ℤ × ℤ) → IsApart (same_pair p) (keys_of arcs) → IsApart (same_pair p) (keys_of entries))
         → ArePairRows kind AreWords arcs (map (λ e. pair_row e.0 e.1) entries)
-    pair_rows rising at apart =
+    pair_rows ascending at apart =
         let nothing : IsListed kind AreWords None [] =
         record { meant = (λ h. laws.meaning.same_refl [], λ h. refl); words = tt } in
         let listed : (p : ℤ × ℤ) → ListedAt p =
@@ -39,7 +39,7 @@ module _ {Arc : Type 0} (kind : ArcKind Arc) (AreWords : List Arc → Cells → 
         (λ h. rw (lookup_apart (same_pair p) entries (apart p h), bundle_apart p arcs h) nothing) in
         record {
           entries = entries;
-          rising = rising;
+          ascending = ascending;
           meant = λ p. (listed p).meant;
           words = λ p. (listed p).words;
           rows_are = refl;

@@ -37,7 +37,7 @@ use Rattle.dn_canon.specs.State.CanonGraphs.{IsCanonGraphOf}
 use Rattle.dn_canon.specs.State.ListedArcs.{listed_graph}
 use Rattle.dn_canon.proofs.ListedLaws.{listed_canon, max_canon, min_canon}
 use Rattle.dn_canon.proofs.OrderLaws.{all_at_pair}
-use Rattle.dn_laws.proofs.texts.KeyLaws.{pair_found, pairs_of, pairs_rising}
+use Rattle.dn_laws.proofs.texts.KeyLaws.{pair_found, pairs_of, pairs_ascending}
 
 signed_of : (n : ℤ) → Fits n → FitsSigned w64 n
 signed_of (pos n) f = record { sfits = grind (arith, nat_tests) }
@@ -149,7 +149,7 @@ curve_of [] is fit most = record {
     mean = record { least = omega (arith, ints); greatest = omega (arith, ints) };
     whole = refl;
     most = most;
-    rising = tt;
+    ascending = tt;
     fit = tt;
   };
   same = curve_meaning.same_refl [];
@@ -201,7 +201,7 @@ module _ {Arc : Type 0} {kind : ArcKind Arc} (laws : IsKind kind) (each : EachHa
     listed_graph (lists form) G.nodes (pairs_of G.arcs),
     listed_canon laws lists (λ f q. (at q).canonical f)
         (λ q. laws.meaning.same_trans _ _ _ ((at q).same Two) (laws.meaning.same_sym _ _ ((at q).same One)))
-        (λ f q. (at q).fit f) form G.nodes (pairs_of G.arcs) G refl (pairs_rising G.arcs) stands v,
+        (λ f q. (at q).fit f) form G.nodes (pairs_of G.arcs) G refl (pairs_ascending G.arcs) stands v,
   )
 
 -- a valid instance has a canonical instance

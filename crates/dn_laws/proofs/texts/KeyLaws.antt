@@ -6,7 +6,7 @@ use Rattle.std.specs.List.Sorted.{IsStrictlySortedBy}
 use Rattle.std.specs.Map.{keys_of, lookup}
 use Rattle.dn_arc_theory.specs.Pairs.{bundle, pair_cmp, same_pair}
 use Rattle.dn_arc_theory.proofs.PairLaws.{pair_is, pair_total}
-use Rattle.dn_instance.proofs.MapLaws.{no_keys, put_found, rising_put}
+use Rattle.dn_instance.proofs.MapLaws.{no_keys, put_found, ascending_put}
 use Rattle.dn_compare.proofs.ArcPartings.{exact_pair}
 
 -- the pairs of the arcs, once each and by ascending pair; each pair is its own key
@@ -15,9 +15,9 @@ pairs_of [] = []
 pairs_of (a ∷ rest) = insert_entry pair_cmp (pairs_of rest) a.0 a.0
 
 module _ {Arc : Type 0} where
-  pub pairs_rising : (arcs : List ((ℤ × ℤ) × Arc)) → IsStrictlySortedBy pair_cmp (keys_of (pairs_of arcs))
-  pairs_rising [] = no_keys pair_cmp
-  pairs_rising (a ∷ rest) = rising_put pair_cmp a.0 a.0 pair_total (pairs_of rest) (pairs_rising rest)
+  pub pairs_ascending : (arcs : List ((ℤ × ℤ) × Arc)) → IsStrictlySortedBy pair_cmp (keys_of (pairs_of arcs))
+  pairs_ascending [] = no_keys pair_cmp
+  pairs_ascending (a ∷ rest) = ascending_put pair_cmp a.0 a.0 pair_total (pairs_of rest) (pairs_ascending rest)
 
   -- a pair is found, or has no arcs
   pub pair_found : (p : ℤ × ℤ) (arcs : List ((ℤ × ℤ) × Arc))

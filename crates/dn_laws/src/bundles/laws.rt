@@ -73,7 +73,7 @@ pub fn put_together()
 {}
 
 /// The least cost of x among canonical arcs of a `min` pair is the forced cost plus the cost of the units beyond the
-/// forced ones, which fill the free capacities by rising cost.
+/// forced ones, which fill the free capacities by ascending cost.
 pub fn exchange()
     ensures { (form : Form) (arcs : List CostArc) → AreCanonCosts form arcs → (x k : ℤ)
         → LeastCost arcs x k ↔ IsFilling arcs x k }

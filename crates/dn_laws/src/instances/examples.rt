@@ -76,7 +76,8 @@ pub fn read_min()
         })) }
 {}
 
-/// A `max` text and the three kinds of companions: terminals in either order, lists in file order, points by rising ID.
+/// A `max` text and the three kinds of companions: terminals in either order, lists in file order, points by ascending
+/// ID.
 pub fn read_others()
     ensures max { Reads (codes "p max 2 1\nn 2 s\nn 1 t\na 1 2 0\n")
         (MaxFlow (pos 2) (pos 1) (record { nodes = pos 2; arcs = ((pos 1, pos 2), record { cap = pos 0 }) ∷ [] })) }

@@ -60,8 +60,8 @@ pub fn after_a_fault()
         → IsFirstFault (t ++ u) (Places.Line n) c }
 {}
 
-/// Ranks strictly rise along the tests of a line, and from there along those of the end of a text. So of two faults,
-/// the one with the lower rank is checked first.
+/// Ranks strictly increase along the tests of a line, and from there along those of the end of a text. So of two
+/// faults, the one with the lower rank is checked first.
 pub fn ranks()
     ensures { (n : ℕ) (before items : List Line) (ws : List Word) → IsStrictlySortedBy nat_cmp
         (map (λ t. code_rank t.0) ((Code.TooLong, is_too_long n) ∷ (line_tests before ws ++ end_tests items))) }

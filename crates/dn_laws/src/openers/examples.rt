@@ -7,7 +7,7 @@ ghost use Rattle.dn_host.specs.Streams.{FailsAtLast, PullsStream};
 
 use dn_host::opened_files::{OpenedFiles, OpenedSource};
 use dn_host::{Files, Opener, Stream};
-use dn_line::Source;
+use dn_line::ByteSource;
 
 /// The name `-` is standard input, which can always be opened; any other name is that of a file.
 pub fn names<P: Opener>()
@@ -20,7 +20,7 @@ pub fn names<P: Opener>()
 pub fn handed<'a, P: Opener>(files: &OpenedFiles<'a, P>, text: &OpenedSource<P>)
     ensures { (name b : List ℕ) → ⟦<OpenedFiles<'a, P> as Files>⟧.files.Hands files.now name text.now
         → ⟦<OpenedFiles<'a, P> as Files>⟧.files.behind files.now name ≡ Some b
-        → ⟦<OpenedSource<P> as Source>⟧.source.gives text.now ≡ Some b }
+        → ⟦<OpenedSource<P> as ByteSource>⟧.source.gives text.now ≡ Some b }
 {}
 
 /// A source that has failed reads no more, and it fails with an interruption only after 2^64-1 of them.

@@ -16,7 +16,7 @@ ghost use Rattle.dn_report.specs.Verdicts.{verdict_row};
 use dn_instance::{CompanionFault, Refusal};
 use dn_line::Code;
 
-/// Pairs are printed by rising pair, with what their arcs mean, and `lines` counts all arcs. An arc that carries
+/// Pairs are printed by ascending pair, with what their arcs mean, and `lines` counts all arcs. An arc that carries
 /// nothing makes no pair.
 pub fn shown()
     ensures lengths { IsShown (with_lengths some_lengths)

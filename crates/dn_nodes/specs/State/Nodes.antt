@@ -40,9 +40,9 @@ pub record Gains {V : Type 0} (old : Nodes V) (node : ℤ) (value : Option V) (n
   pub entries : new.entries ≡ with_entry old.entries node value
   pub known : (q : ℤ) → is_known new q ≡ (at q node || is_known old q)
 
--- the nodes strictly rise
-abbrev pub Rises : {V : Type 0} → List (ℤ × V) → Type 0
-Rises es = IsStrictlySortedBy int_cmp (keys_of es)
+-- the nodes strictly ascend
+abbrev pub Ascends : {V : Type 0} → List (ℤ × V) → Type 0
+Ascends es = IsStrictlySortedBy int_cmp (keys_of es)
 
 -- the entry that an item of an iterator represents
 abbrev pub node_entry : {V : Type 0} → ℤ × Bor V → ℤ × V

@@ -26,7 +26,7 @@ pub record TableLists {B Arc : Type 0} (kind : ArcKind Arc) (lists : B → List 
 -- the table represents these arcs: its bundles are sorted by ascending pair and list arcs that mean the same
 pub record TableStandsFor {B Arc : Type 0} (kind : ArcKind Arc) (lists : B → List Arc) (table : List ((ℤ × ℤ) × B))
     (arcs : List ((ℤ × ℤ) × Arc)) : Type 0 where
-  pub rising : IsStrictlySortedBy pair_cmp (keys_of table)
+  pub ascending : IsStrictlySortedBy pair_cmp (keys_of table)
   pub lists_them : TableLists kind lists table arcs
 
 -- the entry that an item of the iterator represents

@@ -7,7 +7,7 @@ use Rattle.dn_c.proofs.exports.dnorm_items.Statement.{statement}
 use Rattle.dn_c.proofs.exports.dnorm_items.Code as code
 use Rattle.dn_c.specs.contracts.outputs.items as g
 use Rattle.dn_c.proofs.outputs.items.Met.{met}
-use Rattle.dn_c.specs.contracts.place.Place.{the_row as Place}
+use Rattle.dn_c.specs.contracts.cursor.Cursor.{the_row as Cursor}
 use Rattle.dn_c.specs.contracts.items.Item.{the_row as Item}
 use Rattle.dn_c.proofs.status.Count.TheLaws as out
 
@@ -18,7 +18,7 @@ dnorm_items_spec 𝓤 𝓛 𝓜 𝓡 wired =
     entered 𝓤 𝓛.H F 𝓣.C 𝓣.Λ f.Key.name code.function (code.unfolded 𝓤 𝓛.H 𝓜 𝓡 wired)
     (told 𝓛 f.signature (f.spec 𝓛 𝓜.mem 𝓡.returns) (WpFn 𝓤 𝓛.H 𝓣.C 𝓣.Λ code.function)
     (λ κs. (rawptr_vals, (mut_vals, (mut_slice_vals, tt))))
-    (λ κs. (rawptr_Tells, (mut_Tells (named 0) κs.0 Place, (mut_slice_Tells (named 1) κs.1.0 Item, tt))))
+    (λ κs. (rawptr_Tells, (mut_Tells (named 0) κs.0 Cursor, (mut_slice_Tells (named 1) κs.1.0 Item, tt))))
     (λ κs qs bounds a n are.
     let vs = mut_vals a.1.0 in let us = mut_slice_vals a.1.1.0 in
     let y : F.Ghost = ((κs, qs, bounds, a, (rawptr_vals a.0, (vs, (us, tt)))), n) in

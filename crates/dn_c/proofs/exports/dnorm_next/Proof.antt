@@ -7,7 +7,7 @@ use Rattle.dn_c.proofs.exports.dnorm_next.Statement.{statement}
 use Rattle.dn_c.proofs.exports.dnorm_next.Code as code
 use Rattle.dn_c.specs.contracts.outputs.next_arcs as g
 use Rattle.dn_c.proofs.outputs.next_arcs.Met.{met}
-use Rattle.dn_c.specs.contracts.place.Place.{the_row as Place}
+use Rattle.dn_c.specs.contracts.cursor.Cursor.{the_row as Cursor}
 use Rattle.dn_c.specs.contracts.arcs.Arc.{the_row as Arc}
 use Rattle.dn_c.proofs.status.Count.TheLaws as out
 
@@ -23,7 +23,7 @@ dnorm_next_spec 𝓤 𝓛 𝓜 𝓡 wired =
       (
         uint_Tells w8,
         (
-          mut_Tells (named 0) κs.0 Place,
+          mut_Tells (named 0) κs.0 Cursor,
           (mut_slice_Tells (named 1) κs.1.0 Arc, tt),
         ),
       ),

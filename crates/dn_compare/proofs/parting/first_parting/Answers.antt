@@ -1,5 +1,5 @@
 use Rattle.std.proofs.Common.{rules, Some, None}
-use Rattle.dn_compare.proofs.WalkLaws.{turn, kept, halted, ended}
+use Rattle.dn_compare.proofs.PeekedLaws.{turn, kept, halted, ended}
 use Rattle.dn_compare.proofs.parting.first_parting.Goals as goal
 
 pub returns-in-Some-how : goal.returns-in-Some-how
@@ -23,8 +23,8 @@ loop-key-preserved g c =
     c.loop-key.invariant.rights (c.take.ensures.value, c.take.ensures.rest)
     (c.take-in-Some.ensures.value, c.take-in-Some.ensures.rest) in
     record {
-      lefts = t.left.rises;
-      rights = t.right.rises;
+      lefts = t.left.ascends;
+      rights = t.right.ascends;
       rest = λ o h. c.loop-key.invariant.rest o
           (kept g.S.Key.Ord.cmp g.met.S.Key.Ord.total g.met.S.Side.exact g.S.Side.by g.met.S.Side.none_alike
           g.met.S.Side.none_differ t c.in_default-how.ensures o h);

@@ -9,7 +9,7 @@ pub loop-init : goal.loop-init
 loop-init g c = record {
   fed = record {
     given = [];
-    gave = Consumes-nil (g.S.Source.source.gives c.args.source.now);
+    gave = Consumes-nil (g.S.ByteSource.source.gives c.args.source.now);
     pulls = unpulled;
     stays = λ failed. failed;
     read = c.requires.new;
@@ -54,7 +54,7 @@ returns-in-Err-feed-clause-outcome g c =
     let is = c.piece-piece.ensures in
     let pull = c.in_default.ensures.ok in
     let short : length piece ≤ 2 ^ 12 = rw is pull.bound in
-    kept g.K.Keep.keeps _ _ (after_pulls g.S.Source.source c.args.source.now c.pull.new.self) (fed.given ++ piece)
+    kept g.K.Keep.keeps _ _ (after_pulls g.S.ByteSource.source c.args.source.now c.pull.new.self) (fed.given ++ piece)
     (g.K.Keep.kept c.args.text.now) (g.K.Keep.kept c.keep.new.self) (Err c.in-Err-feed.refusal) refl
     (given_more _ _ _ _ fed c.pull.new.self piece (rw is pull.bytes))
     (kept_more _ _ _ _ fed.given piece c.loop.invariant.kept c.in_default-keep.ensures.ok)
@@ -92,7 +92,7 @@ loop-preserved g c =
 pub returns-clause-outcome : goal.returns-clause-outcome
 returns-clause-outcome g c =
     let fed = c.loop.invariant.fed in
-    kept g.K.Keep.keeps _ _ (after_pulls g.S.Source.source c.args.source.now c.loop.source) fed.given
+    kept g.K.Keep.keeps _ _ (after_pulls g.S.ByteSource.source c.args.source.now c.loop.source) fed.given
     (g.K.Keep.kept c.args.text.now) (g.K.Keep.kept c.loop.text) (Err Endless) refl fed.gave c.loop.invariant.kept
     (endless _ _ _ _ fed c.loop.counter c.loop.invariant.count (omega (arith, c.loop-test.false)))
 

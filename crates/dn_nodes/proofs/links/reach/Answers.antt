@@ -2,7 +2,7 @@ use Rattle.std.proofs.Common.{◌≡◌, ◌∙◌, ◌≤ℤ◌, ◌≤◌, ◌
 use Rattle.std.proofs.lemmas.Int.{ints, to_z-of_z}
 use Rattle.std.proofs.lemmas.Grind.{common_steps}
 use Rattle.std.proofs.lemmas.List.{length-set}
-use Rattle.dn_nodes.proofs.LinkLaws.{resized, clear_first, same_first, first_some, far_all, moved_same, moved_clear, moved_rises, moved_far}
+use Rattle.dn_nodes.proofs.LinkLaws.{resized, clear_first, same_first, first_some, far_all, moved_same, moved_clear, moved_ascends, moved_far}
 use Rattle.dn_nodes.proofs.links.reach.Goals as goal
 
 pub loop-node-init : goal.loop-node-init
@@ -14,7 +14,7 @@ loop-node-init c =
       same = rw is (same_first old _ c.args.above.now.entries);
       far = c.requires.far;
       clear = rw is (clear_first old _ c.args.above.now.entries c.requires.far);
-      rises = c.requires.rises;
+      ascends = c.requires.ascends;
       long = search rules;
     }
 
@@ -39,17 +39,17 @@ loop-node-preserved c =
     record {
       same =
           moved_same links i c.in-Some-pop_first.link c.in-Some-pop_first.node es rest is at_i lt
-          c.loop-node.invariant.clear c.loop-node.invariant.rises m c.loop-node.invariant.far
+          c.loop-node.invariant.clear c.loop-node.invariant.ascends m c.loop-node.invariant.far
           ∙ c.loop-node.invariant.same;
       far =
           moved_far links i c.in-Some-pop_first.link c.in-Some-pop_first.node es rest is at_i lt
-          c.loop-node.invariant.clear c.loop-node.invariant.rises m c.loop-node.invariant.far;
+          c.loop-node.invariant.clear c.loop-node.invariant.ascends m c.loop-node.invariant.far;
       clear =
           moved_clear links i c.in-Some-pop_first.link c.in-Some-pop_first.node es rest is at_i lt
-          c.loop-node.invariant.clear c.loop-node.invariant.rises;
-      rises =
-          moved_rises links i c.in-Some-pop_first.link c.in-Some-pop_first.node es rest is at_i lt
-          c.loop-node.invariant.clear c.loop-node.invariant.rises;
+          c.loop-node.invariant.clear c.loop-node.invariant.ascends;
+      ascends =
+          moved_ascends links i c.in-Some-pop_first.link c.in-Some-pop_first.node es rest is at_i lt
+          c.loop-node.invariant.clear c.loop-node.invariant.ascends;
       long = rw length-set c.loop-node.invariant.long;
     }
 
@@ -60,4 +60,4 @@ returns-then-len-place_of-clause-far c =
     omega (arith, ints, c.if-len-place_of.true, c.loop-node.invariant.long, c.place_of.ensures) in
     far_all (length c.args.links.now.items) (length c.loop-node.links.items) c.loop-node.above.entries
     (node, c.in-Some-first_key_value.field-0-1.now) c.in-Some-first_key_value.ensures.first le
-    c.loop-node.invariant.rises c.loop-node.invariant.far
+    c.loop-node.invariant.ascends c.loop-node.invariant.far

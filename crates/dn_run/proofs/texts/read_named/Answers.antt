@@ -9,8 +9,8 @@ use Rattle.dn_run.proofs.texts.read_named.Goals as goal
 
 pub returns-in-Ok-clause-read : goal.returns-in-Ok-clause-read
 returns-in-Ok-clause-read g c =
-    let files = files_run g.F.Files.files g.F.Text.Source.source (c.args.files.now, c.give_back.new.self) in
-    let text = taken_text g.F.Files.files g.F.Text.Source.source (c.args.files.now, c.give_back.new.self)
+    let files = files_run g.F.Files.files g.F.Text.ByteSource.source (c.args.files.now, c.give_back.new.self) in
+    let text = taken_text g.F.Files.files g.F.Text.ByteSource.source (c.args.files.now, c.give_back.new.self)
     c.args.name.now in
     by_name (IsRead (IsRefusedText text) text) _ _ _ c.or_stop.ensures
     (handed_reads _ _ _ (sources_asked files c.args.files.now c.give_back.new.self c.args.name.now) _

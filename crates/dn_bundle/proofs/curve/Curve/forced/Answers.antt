@@ -11,7 +11,7 @@ returns-clause-units c =
     to_z-of_z w64 c.units.result (search rules) ∙ c.units.ensures
     ∙ sym
     (listed_units self.units self.cost self.steps self.sound.some
-    (none_is self.units self.cost self.total self.steps self.sound) self.sound.rising)
+    (none_is self.units self.cost self.total self.steps self.sound) self.sound.ascending)
 
 pub returns-clause-cost : goal.returns-clause-cost
 returns-clause-cost c =
@@ -19,4 +19,4 @@ returns-clause-cost c =
     to_z-of_z w128 c.cost.result (search rules) ∙ c.cost.ensures
     ∙ sym
     (listed_cost self.units self.cost self.steps self.sound.some
-    (none_is self.units self.cost self.total self.steps self.sound) self.sound.rising)
+    (none_is self.units self.cost self.total self.steps self.sound) self.sound.ascending)

@@ -5,12 +5,12 @@ use Rattle.dn_c.proofs.items.ItemsLeft.of.Goals as goal
 
 pub returns-in-Ss-clause-left : goal.returns-in-Ss-clause-left
 returns-in-Ss-clause-left c =
-    let n = c.args.place.now.pairs in
+    let n = c.args.cursor.now.pairs in
     ap (map id_item) c.list_after.ensures.left ∙ sym (drop-map id_item n c.in-Ss.items.now)
-    ∙ ap (λ k. left_items k c.args.place.now) c.in-Ss.ensures
+    ∙ ap (λ k. left_items k c.args.cursor.now) c.in-Ss.ensures
 
 pub returns-in-P2p-clause-left : goal.returns-in-P2p-clause-left
 returns-in-P2p-clause-left c =
-    let n = c.args.place.now.pairs in
+    let n = c.args.cursor.now.pairs in
     ap (map pair_item) c.list_after-in-P2p.ensures.left ∙ sym (drop-map pair_item n c.in-P2p.items.now)
-    ∙ ap (λ k. left_items k c.args.place.now) c.in-P2p.ensures
+    ∙ ap (λ k. left_items k c.args.cursor.now) c.in-P2p.ensures

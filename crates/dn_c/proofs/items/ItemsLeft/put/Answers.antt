@@ -10,6 +10,6 @@ loop-at-preserved c = record {
   kept = grind (arith, common_steps);
   behind = λ contents listed left.
       ap (left_items contents) c.behind.ensures
-      ∙ items_step contents c.loop-at.place c.in-Some.item (items_left c.next.new.self) listed
+      ∙ items_step contents c.loop-at.cursor c.in-Some.item (items_left c.next.new.self) listed
       (c.loop-at.invariant.behind contents listed left ∙ c.in-Some.ensures);
 }

@@ -7,6 +7,6 @@ abbrev pub invariant-loop-at : goal.invariant-loop-at
 invariant-loop-at l = record {
   copied : take l.at l.out ++ items_left l.self ≡ items_left l.fn.self;
   kept : length l.out ≡ l.room;
-  behind : (contents : Contents) → IsListed contents → items_left l.fn.self ≡ left_items contents l.fn.place
-      → left_items contents l.place ≡ items_left l.self;
+  behind : (contents : Contents) → IsListed contents → items_left l.fn.self ≡ left_items contents l.fn.cursor
+      → left_items contents l.cursor ≡ items_left l.self;
 }

@@ -2,7 +2,7 @@
 use Rattle.dn_c.proofs.Steps.{move, [], ◌∷◌, ◌++◌, refl, ◌∙◌, List, Some, Val, vstruct, of_list, WpFn, emp, ftrue, fsep, tables, ‵, raw, ◌⊛◌, prop, ◌$◌, ◌∵◌, !, qed, done, keep, drop, split, join, fsplit, fjoin, fpick, fpack, feq_l, feq_i, regoal, suffices, agg, sub, whole, stop, fld, no_more, and_then, of_opd, returns, enter, alloc_all, pass_all, free_all, look_at, get, get_in, sets, yes, Valss, RawPtr, ptr_val, rawptr_Lawful, plain, within, shape, nothing, says, Stays, stay_dropped, walk_of, ends_at, Goes-dropped, handle_tells, proved_at}
 use Rattle.dn_c.proofs.AsBox.{E, seal_at, seal_typed, parts_typed}
 use Rattle.std_heap.specs.contracts.GlobalAllocator.TheImpl.{ghosts}
-use Rattle.dn_c.specs.contracts.seal.parts.Parts as Parts
+use Rattle.dn_c.specs.contracts.seal.box_parts.BoxParts as BoxParts
 use Rattle.dn_c.specs.contracts.seal.Seal as Seal
 use Rattle.dn_c.specs.contracts.seal.Seal.of as f
 use Rattle.dn_c.proofs.seal.Seal.of.Statement.{statement}
@@ -13,7 +13,7 @@ use denote.Signature.{Slot}
 use mir.Raw.{raw as bare}
 
 abbrev From : Slot 0
-From = plain (λ _. Parts.the_row E.row E.al.row ghosts)
+From = plain (λ _. BoxParts.the_row E.row E.al.row ghosts)
 
 abbrev stayed : Stays f.ended.signature.params f.ended.kept
 stayed = (stay_dropped From yes, tt)

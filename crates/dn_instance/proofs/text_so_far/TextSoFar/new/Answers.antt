@@ -15,7 +15,7 @@ returns c =
             due_is = refl;
             due_some = omega arith;
             arcs_are = λ graph. refl;
-            marks_hold = c.new.ensures;
+            descriptors_hold = c.new.ensures;
             body_holds = refl;
           };
     }

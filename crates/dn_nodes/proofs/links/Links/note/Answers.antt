@@ -6,7 +6,7 @@ use Rattle.std.proofs.lemmas.Grind.{common_steps}
 use Rattle.std.proofs.lemmas.List.{length-set}
 use Rattle.dn_nodes.specs.State.Links.{direct}
 use Rattle.dn_nodes.specs.declared.links.Links.TheInside.{Inside}
-use Rattle.dn_nodes.proofs.KeyLaws.{insert_rises}
+use Rattle.dn_nodes.proofs.KeyLaws.{insert_ascends}
 use Rattle.dn_nodes.proofs.LinkLaws.{far_insert, note_far, note_link}
 use Rattle.dn_nodes.proofs.NodeLaws.{short_more}
 use Rattle.dn_nodes.proofs.links.Links.note.Goals as goal
@@ -30,7 +30,7 @@ invariant_of-self-then-saturating_add-place c =
     (omega (arith, c.self.invariant.3, ap length c.self.view_is)) (omega (arith, c.saturating_add-count.ensures)) in (
       rw is (far_insert (length s.links.items) s.above.entries c.args.node.now c.args.link far c.requires.link
           c.self.invariant.0),
-      rw is (insert_rises s.above.entries c.args.node.now c.args.link c.self.invariant.1),
+      rw is (insert_ascends s.above.entries c.args.node.now c.args.link c.self.invariant.1),
       more.0,
       more.1,
     )
@@ -98,7 +98,7 @@ invariant_of-self-2 c =
           c.args.node.now w.in_ok-reach.ensures.far view i (sym place)
           (omega (arith, w.in_ok-reach.ensures.ok)) l c.requires.link c.requires.none in
           let more = short_more c.args.self.now _ c.args.node.now l _ s.count _ now c.requires.none most few one in
-          rw (w.self-inside-is, length-set) (w.in_ok-reach.ensures.far, w.in_ok-reach.ensures.rising, more.0, more.1)
+          rw (w.self-inside-is, length-set) (w.in_ok-reach.ensures.far, w.in_ok-reach.ensures.ascending, more.0, more.1)
       | else-len-place w ↦
           let lt : i < length s.links.items =
           grind (arith, common_steps, w.if-len-place.false, c.len.ensures) in

@@ -1,5 +1,5 @@
-use Rattle.dn_instance.proofs.MarksLaws.{sink_same, sink_taken, source_same, source_taken}
-use Rattle.dn_instance.proofs.marks.Marks.take_terminal.Goals as goal
+use Rattle.dn_instance.proofs.DescriptorLaws.{sink_same, sink_taken, source_same, source_taken}
+use Rattle.dn_instance.proofs.node_descriptors.NodeDescriptors.take_terminal.Goals as goal
 
 pub returns-in-S-clause-taken : goal.returns-in-S-clause-taken
 returns-in-S-clause-taken c =

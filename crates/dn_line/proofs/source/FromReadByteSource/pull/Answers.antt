@@ -1,5 +1,5 @@
 use Rattle.std.proofs.Common.{rules}
-use Rattle.dn_line.proofs.source.FromReadSource.pull.Goals as goal
+use Rattle.dn_line.proofs.source.FromReadByteSource.pull.Goals as goal
 
 pub returns-in-Ok : goal.returns-in-Ok
 returns-in-Ok g c = search rules

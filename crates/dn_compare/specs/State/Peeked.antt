@@ -1,12 +1,12 @@
--- A walk over entries by rising key.
+-- A walk over entries by ascending key.
 use Rattle.std.specs.Prelude.{Bool, List, [], ◌∷◌, Option, Some, None, cond}
 use Rattle.std.specs.Ordering.{match_ordering}
 use Rattle.std.specs.declared.cmp.Ordering.{Ordering}
 
 -- the entries that a walk has not passed: the next one, of whose value `value` says what it is, and those after it
-abbrev pub before_walk : {K L V : Type 0} → (L → V) → Option (K × L) → List (K × V) → List (K × V)
-before_walk value None rest = []
-before_walk value (Some e) rest = (e.0, value e.1) ∷ rest
+abbrev pub peeked_entries : {K L V : Type 0} → (L → V) → Option (K × L) → List (K × V) → List (K × V)
+peeked_entries value None rest = []
+peeked_entries value (Some e) rest = (e.0, value e.1) ∷ rest
 
 -- the key of the first entry
 abbrev pub first_key : {K V : Type 0} → List (K × V) → Option K

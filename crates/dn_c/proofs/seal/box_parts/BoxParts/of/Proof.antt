@@ -1,13 +1,13 @@
 -- `of` takes the box apart, and the parts own what it owned.
 use Rattle.dn_c.proofs.Steps.{proved_at, framed, ◌≡◌, refl, sym, subst, ap, ◌∙◌, List, [], ◌∷◌, ◌++◌, Args, a_type, dcons, dnil, inst_fn, Val, vstruct, of_list, ent, id⊢, never, fst∗, ftrue, fsep, flft, ◌⊑◌, WpFn, sem, fact, tables, Item, ‵, raw, ◌⊛◌, some, later, ◌$◌, ◌∵◌, !, qed, by, move, drop, use1, join, split, split3, pick, rewrite, fsplit, fjoin, fpick, feq_l, suffices, await, done, whole, sub, agg, stop, fld, no_more, and_then, of_opd, returns, enter, alloc_all, pass_all, free_all, look_at, get, get_in, sets, lands_as, RattleType, no, bounded, Ptr, RawPtr, block_ptr, null_ptr, ptr_val, in_a_block, plain, heard, nothing, only, Tuple, calls_at, triple_of, says, Stays, stay_dropped, walk_of, ends_at, token, handle_tells, Goes-blank, box_owns, Bx, D, τ, R, P, B, word, box_typed, box_out, box_in}
 use mir.Raw.{raw as bare}
-use Rattle.dn_c.specs.contracts.seal.parts.Parts as parts
+use Rattle.dn_c.specs.contracts.seal.box_parts.BoxParts as parts
 use Rattle.std_alloc.specs.contracts.boxed.Box.into_raw_with_allocator as Ra
 use Rattle.std_alloc.proofs.boxed.Box.into_raw_with_allocator.Met as raw_met
-use Rattle.dn_c.specs.contracts.seal.parts.Parts.of as F
-use Rattle.dn_c.specs.contracts.seal.parts.Parts.of.Key.{name as #self}
-use Rattle.dn_c.proofs.seal.parts.Parts.of.Statement as stated
-use Rattle.dn_c.proofs.seal.parts.Parts.of.Code as code
+use Rattle.dn_c.specs.contracts.seal.box_parts.BoxParts.of as F
+use Rattle.dn_c.specs.contracts.seal.box_parts.BoxParts.of.Key.{name as #self}
+use Rattle.dn_c.proofs.seal.box_parts.BoxParts.of.Statement as stated
+use Rattle.dn_c.proofs.seal.box_parts.BoxParts.of.Code as code
 
 pub of_spec : {M : Type 1} → stated.statement M
 of_spec 𝓤 𝓛 𝓜 𝓡 wired X Z LX LZ g d dd dx allocator md glue =

@@ -1,5 +1,5 @@
 use Rattle.dn_line.proofs.RowLaws.{natural_fit}
-use Rattle.dn_line.proofs.row.ThreeCount.read_short.Goals as goal
+use Rattle.dn_line.proofs.row.ThreeWidth.read_short.Goals as goal
 
 pub returns-clause-fit : goal.returns-clause-fit
 returns-clause-fit c =

@@ -1,5 +1,5 @@
-use Rattle.dn_instance.proofs.MarksLaws.{supply_same, supply_taken}
-use Rattle.dn_instance.proofs.marks.Marks.take_supply.Goals as goal
+use Rattle.dn_instance.proofs.DescriptorLaws.{supply_same, supply_taken}
+use Rattle.dn_instance.proofs.node_descriptors.NodeDescriptors.take_supply.Goals as goal
 
 pub returns-clause-taken : goal.returns-clause-taken
 returns-clause-taken c =

@@ -1,12 +1,12 @@
 -- `into_box` hands what the parts own to `from_raw`.
 use Rattle.dn_c.proofs.Steps.{proved_at, framed, ◌≡◌, refl, sym, subst, ap, List, [], ◌∷◌, ◌++◌, T, Body, place, copy, assign, rv_opd, seq, return, inst_fn, Val, vptr, has_ty, WT, ent, id⊢, ftrue, fsep, flft, ◌⊑◌, WpFn, fact, tables, Item, at_ret, ‵, raw, ◌⊛◌, some, later, ◌$◌, ◌∵◌, !, qed, by, move, drop, use1, join, split, split3, pick, rewrite, fsplit, fjoin, feq_i, suffices, await, done, whole, sub, stop, fld, no_more, and_then, of_opd, returns, enter, first, blocks, exec, alloc_all, pass_all, free_all, look_at, get, get_in, sets, lands_last, env, RattleType, no, block_ptr, plain, heard, nothing, only, calls_at_last, triple_of, says, Stays, stay_dropped, walk_of, ends_at, token, Goes-blank, box_owns, Bx, D, R, P, B, args, box_ty, word, box_typed, box_out, box_in}
-use Rattle.dn_c.specs.contracts.seal.parts.Parts as parts
+use Rattle.dn_c.specs.contracts.seal.box_parts.BoxParts as parts
 use Rattle.std_alloc.specs.contracts.boxed.Box.from_raw as Fr
 use Rattle.std_alloc.proofs.boxed.Box.from_raw.Met as raw_met
-use Rattle.dn_c.specs.contracts.seal.parts.Parts.into_box as F
-use Rattle.dn_c.specs.contracts.seal.parts.Parts.into_box.Key.{name as #self}
-use Rattle.dn_c.proofs.seal.parts.Parts.into_box.Statement as stated
-use Rattle.dn_c.proofs.seal.parts.Parts.into_box.Code as code
+use Rattle.dn_c.specs.contracts.seal.box_parts.BoxParts.into_box as F
+use Rattle.dn_c.specs.contracts.seal.box_parts.BoxParts.into_box.Key.{name as #self}
+use Rattle.dn_c.proofs.seal.box_parts.BoxParts.into_box.Statement as stated
+use Rattle.dn_c.proofs.seal.box_parts.BoxParts.into_box.Code as code
 
 abbrev rest : Body
 rest = seq (assign (place 0 []) (rv_opd (copy (place 4 [])))) return

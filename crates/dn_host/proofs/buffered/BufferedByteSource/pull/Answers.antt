@@ -1,5 +1,5 @@
 use Rattle.std.proofs.Common.{rules}
-use Rattle.dn_host.proofs.buffered.BufferedSource.pull.Goals as goal
+use Rattle.dn_host.proofs.buffered.BufferedByteSource.pull.Goals as goal
 
 pub returns-then-self : goal.returns-then-self
 returns-then-self g c = search rules

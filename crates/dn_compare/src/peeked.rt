@@ -1,8 +1,8 @@
-// Walks over the entries of a table or a map, by rising key.
+// Walks over the entries of a table or a map, by ascending key.
 ghost use Rattle.std.specs.Prelude.{◌≡◌};
 ghost use Rattle.std.specs.BTreeMap.{is_at};
 ghost use Rattle.std.specs.Option.{option_map};
-ghost use Rattle.dn_compare.specs.State.Walks.{after_key, first_key, lesser_key, value_at};
+ghost use Rattle.dn_compare.specs.State.Peeked.{after_key, first_key, lesser_key, value_at};
 
 use crate::side::Side;
 use std::cmp::Ordering;
@@ -10,28 +10,28 @@ use std::marker::Model;
 
 // A walk over one side.
 #[derive(Drop)]
-pub(crate) struct Walk<S: Side> {
+pub(crate) struct Peeked<S: Side> {
     next: Option<(S::Key, S::Lent)>,
     rest: S,
 }
 
-impl<S: Side> Model for Walk<S> {
+impl<S: Side> Model for Peeked<S> {
     ghost use Rattle.std.specs.Prelude.{List};
-    ghost use Rattle.dn_compare.specs.State.Walks.{before_walk};
+    ghost use Rattle.dn_compare.specs.State.Peeked.{peeked_entries};
 
     ghost Value = { List (S.Key × S.Value) };
 
-    ghost view = { λ w. before_walk S.value w.next (S.entries w.rest) };
+    ghost view = { λ w. peeked_entries S.value w.next (S.entries w.rest) };
 }
 
-impl<S: Side> Walk<S> {
+impl<S: Side> Peeked<S> {
     // Returns a walk that begins at the least key.
-    pub(crate) fn new(side: S) -> Walk<S>
+    pub(crate) fn new(side: S) -> Peeked<S>
         ensures { result ≡ S.entries side }
     {
         let mut rest = side;
         let next = rest.next_entry();
-        Walk { next, rest }
+        Peeked { next, rest }
     }
 
     // Returns the key of the next entry.

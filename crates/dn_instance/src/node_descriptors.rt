@@ -4,7 +4,7 @@ ghost use Rattle.dn_line.specs.declared.line.Line.TheVariants.{Supply, Terminal}
 ghost use Rattle.dn_line.specs.declared.kind.Kind.{Kind};
 ghost use Rattle.dn_line.specs.LineTable.{is_companion};
 ghost use Rattle.dn_instance.specs.State.Bodies.{Keeps, TakesRow};
-ghost use Rattle.dn_instance.specs.State.TextParts.{MarksHold, terminals_of};
+ghost use Rattle.dn_instance.specs.State.TextParts.{DescriptorsHold, terminals_of};
 
 use crate::items::{insert_supply, set_terminal};
 use crate::refusal::ItemFault;
@@ -14,19 +14,19 @@ use std::alloc::Global;
 
 // What the `n` lines so far make. A text of a kind without such lines has none of these.
 #[derive(Drop)]
-pub(crate) struct Marks {
+pub(crate) struct NodeDescriptors {
     // The nodes with an `n` line. One whose flow is 0 has no value.
     pub(crate) supplies: NodeMap<i64>,
     pub(crate) source: Option<i64>,
     pub(crate) sink: Option<i64>,
 }
 
-impl Marks {
-    // Makes the marks of a text without `n` lines.
-    pub(crate) fn new(alloc: Global) -> Marks
-        ensures { MarksHold result [] }
+impl NodeDescriptors {
+    // Makes the descriptors of a text without `n` lines.
+    pub(crate) fn new(alloc: Global) -> NodeDescriptors
+        ensures { DescriptorsHold result [] }
     {
-        Marks {
+        NodeDescriptors {
             supplies: NodeMap::new(alloc),
             source: None,
             sink: None,
@@ -36,8 +36,9 @@ impl Marks {
     // Takes a `min` node line, or returns its fault.
     pub(crate) fn take_supply(&mut self, nodes: &i64, id: &i64, flow: &i64) -> Result<(), ItemFault>
         ensures taken { (kind : Kind) → is_companion kind ≡ false
-            → TakesRow kind nodes.now (MarksHold self.old) (MarksHold self.new) (Supply id.now flow.now) result }
-        ensures unchanged { OnErr result (Keeps (MarksHold self.old) (MarksHold self.new)) }
+            → TakesRow kind nodes.now (DescriptorsHold self.old) (DescriptorsHold self.new)
+            (Supply id.now flow.now) result }
+        ensures unchanged { OnErr result (Keeps (DescriptorsHold self.old) (DescriptorsHold self.new)) }
     {
         insert_supply(&mut self.supplies, nodes, id, flow)
     }
@@ -50,8 +51,9 @@ impl Marks {
         letter: Letter,
     ) -> Result<(), ItemFault>
         ensures taken { (kind : Kind) → is_companion kind ≡ false
-            → TakesRow kind nodes.now (MarksHold self.old) (MarksHold self.new) (Terminal id.now letter) result }
-        ensures unchanged { OnErr result (Keeps (MarksHold self.old) (MarksHold self.new)) }
+            → TakesRow kind nodes.now (DescriptorsHold self.old) (DescriptorsHold self.new)
+            (Terminal id.now letter) result }
+        ensures unchanged { OnErr result (Keeps (DescriptorsHold self.old) (DescriptorsHold self.new)) }
         ensures memory { result ≡ Err ItemFault.Memory → ⊥ }
     {
         match letter {

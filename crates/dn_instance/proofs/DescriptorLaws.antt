@@ -1,4 +1,4 @@
--- Lemmas on `n` lines: what the marks hold after them, and that other lines keep what the marks hold.
+-- Lemmas on `n` lines: what the descriptors hold after them, and that other lines keep what the descriptors hold.
 use Rattle.std.proofs.Common.{arith, ◌≡◌, ℤ, List, [], ◌∷◌, ◌++◌, true, false, ◌||◌, not, Option, Some, None, is_some, IsSome, Result, Ok, Err, OnOk, OnErr, refl, sym, ◌∙◌, inr, filter_map, pos, Bool, cond, int_cmp, int_eq, option_map, rules}
 use Rattle.dn_instance.proofs.CleanItems.{or_none}
 use Rattle.dn_instance.proofs.ValidLaws.{terminal_more, kept, grown}
@@ -19,12 +19,12 @@ use Rattle.dn_instance.specs.Items.{by_key, cap_arc_in, cost_arc_in, is_counted,
 use Rattle.dn_instance.specs.TextFaults.{has_point, has_supply}
 use Rattle.dn_line.specs.LineTable.{is_companion}
 use Rattle.dn_instance.specs.State.Bodies.{Keeps, MapHolds, TakesRow, TableHolds}
-use Rattle.dn_instance.specs.State.TextParts.{AnyBody, BodyHolds, MarksHold, body_kind}
+use Rattle.dn_instance.specs.State.TextParts.{AnyBody, BodyHolds, DescriptorsHold, body_kind}
 use Rattle.dn_instance.specs.State.TextsSoFar.{HoldsBody}
 use Rattle.dn_instance.specs.State.ItemFaults.{AnswersFault, in_graph, terminal_fault, supply_fault}
 use Rattle.dn_instance.specs.State.RowHeads.{counted_line}
 use Rattle.dn_instance.specs.declared.body.Body.TheVariants as Bodies
-use Rattle.dn_instance.specs.declared.marks.Marks.{Marks}
+use Rattle.dn_instance.specs.declared.node_descriptors.NodeDescriptors.{NodeDescriptors}
 use Rattle.dn_instance.specs.declared.refusal.ItemFault.{ItemFault}
 use Rattle.dn_instance.specs.declared.refusal.ItemFault.TheVariants.{Memory}
 use Rattle.dn_instance.proofs.FirstFaults.{none_first}
@@ -40,15 +40,15 @@ on_ok_from (Ok x) f a go ok = go a ok
 on_ok_from (Err e) f a go ok = tt
 
 -- the item is no `n` line
-pub record IsNoMark (i : Line) : Type 0 where
+pub record IsNoDescriptor (i : Line) : Type 0 where
   pub supply : supply_in i ≡ None
   pub other : (q : ℤ) → has_supply q i ≡ false
   pub terminal : (l : Letter) → terminal_in l i ≡ None
 
 -- the item of a counted row is no `n` line
-pub row_no_mark : (kind : Kind) (r : Row) → IsNoMark (counted_line kind r)
-row_no_mark Min r = record { supply = refl; other = λ q. refl; terminal = λ l. refl }
-row_no_mark _ r = record { supply = refl; other = λ q. refl; terminal = λ l. refl }
+pub row_no_descriptor : (kind : Kind) (r : Row) → IsNoDescriptor (counted_line kind r)
+row_no_descriptor Min r = record { supply = refl; other = λ q. refl; terminal = λ l. refl }
+row_no_descriptor _ r = record { supply = refl; other = λ q. refl; terminal = λ l. refl }
 
 module _ {X : Type 0} (entry_in : Line → Option (ℤ × X)) (has : ℤ → Line → Bool) (before : List Line) (i : Line) where
   -- an item without an ID keeps what the map holds
@@ -82,21 +82,21 @@ same_terminal : (l : Letter) (before : List Line) (i : Line) → terminal_in l i
     → terminal_of l (before ++ i ∷ []) ≡ terminal_of l before
 same_terminal l before i none = rw (terminal_more l before (i ∷ []), none) (or_none (terminal_of l before))
 
--- an item that is no `n` line keeps what the marks hold
-pub mark_kept : (h : Marks) (before : List Line) (i : Line) → IsNoMark i → MarksHold h before
-    → MarksHold h (before ++ i ∷ [])
-mark_kept h before i none was = record {
+-- an item that is no `n` line keeps what the descriptors hold
+pub descriptors_kept : (h : NodeDescriptors) (before : List Line) (i : Line) → IsNoDescriptor i
+    → DescriptorsHold h before → DescriptorsHold h (before ++ i ∷ [])
+descriptors_kept h before i none was = record {
   supplies = map_kept supply_in has_supply before i h.supplies none.supply none.other was.supplies;
   source_is = was.source_is ∙ sym (same_terminal S before i (none.terminal S));
   sink_is = was.sink_is ∙ sym (same_terminal T before i (none.terminal T));
 }
 
 -- `n` lines of a `max` text
-module _ (nodes id : ℤ) (h : Marks) (s : Option ℤ) (r : Result (Unit {0}) ItemFault) where
-  abbrev with_source : Marks
+module _ (nodes id : ℤ) (h : NodeDescriptors) (s : Option ℤ) (r : Result (Unit {0}) ItemFault) where
+  abbrev with_source : NodeDescriptors
   with_source = record h { source = s }
 
-  abbrev with_sink : Marks
+  abbrev with_sink : NodeDescriptors
   with_sink = record h { sink = s }
 
   not_yet : (own other : Option ℤ) → terminal_fault nodes own other id ≡ None → own ≡ None
@@ -106,7 +106,7 @@ module _ (nodes id : ℤ) (h : Marks) (s : Option ℤ) (r : Result (Unit {0}) It
 
   pub source_taken : (l : Letter) → l ≡ S → AnswersFault r (terminal_fault nodes h.source h.sink id)
       → OnOk r (s ≡ Some id) → (r ≡ Err Memory → ⊥) → (kind : Kind) → is_companion kind ≡ false
-      → TakesRow kind nodes (MarksHold h) (MarksHold with_source) (Item.Terminal id l) r
+      → TakesRow kind nodes (DescriptorsHold h) (DescriptorsHold with_source) (Item.Terminal id l) r
   source_taken l is ans ok never kind graph before a was =
       let i = Item.Terminal id S in
       rw is (record {
@@ -123,7 +123,7 @@ module _ (nodes id : ℤ) (h : Marks) (s : Option ℤ) (r : Result (Unit {0}) It
 
   pub sink_taken : (l : Letter) → l ≡ T → AnswersFault r (terminal_fault nodes h.sink h.source id)
       → OnOk r (s ≡ Some id) → (r ≡ Err Memory → ⊥) → (kind : Kind) → is_companion kind ≡ false
-      → TakesRow kind nodes (MarksHold h) (MarksHold with_sink) (Item.Terminal id l) r
+      → TakesRow kind nodes (DescriptorsHold h) (DescriptorsHold with_sink) (Item.Terminal id l) r
   sink_taken l is ans ok never kind graph before a was =
       let i = Item.Terminal id T in
       rw is (record {
@@ -139,10 +139,10 @@ module _ (nodes id : ℤ) (h : Marks) (s : Option ℤ) (r : Result (Unit {0}) It
       })
 
   pub source_same : OnErr r (s ≡ h.source)
-      → OnErr r (Keeps (MarksHold h) (MarksHold with_source))
+      → OnErr r (Keeps (DescriptorsHold h) (DescriptorsHold with_source))
   source_same same = on_err_weaker r (λ e items was. rw e was) same
 
-  pub sink_same : OnErr r (s ≡ h.sink) → OnErr r (Keeps (MarksHold h) (MarksHold with_sink))
+  pub sink_same : OnErr r (s ≡ h.sink) → OnErr r (Keeps (DescriptorsHold h) (DescriptorsHold with_sink))
   sink_same same = on_err_weaker r (λ e items was. rw e was) same
 
 -- an item that is not an arc does not change what the table holds
@@ -177,14 +177,14 @@ holds_kept None kind is before i free h = cc
 holds_kept (Some b) kind is before i free h = body_kept b before i free h
 
 -- a problem line is not counted, and no `n` line
-pub no_item : (i : Line) → IsSome (problem_in i) → (is_counted i ≡ false) × IsNoMark i
+pub no_item : (i : Line) → IsSome (problem_in i) → (is_counted i ≡ false) × IsNoDescriptor i
 no_item (Item.Graph _ _ _) h = (refl, record { supply = refl; other = λ q. refl; terminal = λ l. refl })
 no_item (Item.Aux _ _) h = (refl, record { supply = refl; other = λ q. refl; terminal = λ l. refl })
 no_item _ h = cc
 
 -- `n` lines of a `min` text
-module _ (nodes id flow : ℤ) (h : Marks) (s : Nodes ℤ) (r : Result (Unit {0}) ItemFault) where
-  abbrev with_supply : Marks
+module _ (nodes id flow : ℤ) (h : NodeDescriptors) (s : Nodes ℤ) (r : Result (Unit {0}) ItemFault) where
+  abbrev with_supply : NodeDescriptors
   with_supply = record h { supplies = s }
 
   flow_in : (zero : Bool) → cond {A = Option (ℤ × ℤ)} zero None (Some (id, flow))
@@ -195,7 +195,7 @@ module _ (nodes id flow : ℤ) (h : Marks) (s : Nodes ℤ) (r : Result (Unit {0}
   pub supply_taken : AnswersFault r (supply_fault nodes (is_known h.supplies id) id)
       → OnOk r (Gains h.supplies id (cond (int_eq flow (pos 0)) None (Some flow)) s)
       → (kind : Kind) → is_companion kind ≡ false
-      → TakesRow kind nodes (MarksHold h) (MarksHold with_supply) (Item.Supply id flow) r
+      → TakesRow kind nodes (DescriptorsHold h) (DescriptorsHold with_supply) (Item.Supply id flow) r
   supply_taken ans ok kind graph before a was =
       let i = Item.Supply id flow in
       record {
@@ -212,7 +212,7 @@ module _ (nodes id flow : ℤ) (h : Marks) (s : Nodes ℤ) (r : Result (Unit {0}
         }) ok;
       }
 
-  -- a node line that is not taken does not change what the marks hold
+  -- a node line that is not taken does not change what the descriptors hold
   pub supply_same : OnErr r (s ≡ h.supplies)
-      → OnErr r (Keeps (MarksHold h) (MarksHold with_supply))
+      → OnErr r (Keeps (DescriptorsHold h) (DescriptorsHold with_supply))
   supply_same same = on_err_weaker r (λ e items was. rw e was) same

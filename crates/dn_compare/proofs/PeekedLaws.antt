@@ -1,4 +1,4 @@
--- Lemmas on two walks in step, by rising key.
+-- Lemmas on two walks in step, by ascending key.
 use Rattle.std.proofs.Common.{◌≡◌, inl, inr, ◌+◌, ◌<◌, length, List, [], ◌∷◌, Bool, true, false, cond, Option, Some, None, refl, sym, ap, ◌∙◌, arith}
 use Rattle.std.specs.BTreeMap.{is_at}
 use Rattle.std.specs.Cmp.{IsTotalOrder, eq_by_cmp_equiv, tied_itself}
@@ -14,7 +14,7 @@ use Rattle.std.proofs.lemmas.Map.{lookup-none}
 use Rattle.std.proofs.lemmas.Map.Entries.{lookup_head, lookup_tail, none_past_head, none_below_head}
 use Rattle.std.proofs.lemmas.Map.Keys.{sorted_head, sorted_tail, IsDistinct-from_sorted}
 use Rattle.std.proofs.lemmas.Map.Lookups.{CmpEqualImpliesEq}
-use Rattle.dn_compare.specs.State.Walks.{first_key, value_at, after_key, lesser_key}
+use Rattle.dn_compare.specs.State.Peeked.{first_key, value_at, after_key, lesser_key}
 use Rattle.dn_compare.specs.State.Partings.{Comparison, AlikeAt, IsParting}
 use Rattle.dn_arc_theory.proofs.PairLaws.{equal_is, reversed}
 
@@ -32,15 +32,15 @@ module _ {K : Type 0} (cmp : K → K → Ordering) (total : IsTotalOrder cmp) (e
   key_self p = tied_itself total p
 
   module _ {V : Type 0} where
-    abbrev pub Rises : List (K × V) → Type 0
-    Rises es = IsStrictlySortedBy cmp (keys_of es)
+    abbrev pub Ascends : List (K × V) → Type 0
+    Ascends es = IsStrictlySortedBy cmp (keys_of es)
 
     all_below : (k : K) (es : List (K × V)) → AllByRecursion (λ l. cmp k l ≡ Less) (keys_of es)
         → below_all cmp k es ≡ true
     all_below k [] a = refl
     all_below k (e ∷ es) a = rw a.0 (all_below k es a.1)
 
-    sorted : (es : List (K × V)) → Rises es → is_sorted cmp es ≡ true
+    sorted : (es : List (K × V)) → Ascends es → is_sorted cmp es ≡ true
     sorted [] s = refl
     sorted (e ∷ es) s =
         rw (all_below e.0 es (sorted_head cmp e.0 (keys_of es) s)) (sorted es (sorted_tail cmp e.0 (keys_of es) s))
@@ -49,8 +49,8 @@ module _ {K : Type 0} (cmp : K → K → Ordering) (total : IsTotalOrder cmp) (e
     find_is q [] = refl
     find_is q (e ∷ es) = ap (λ o. cond (Sought q e.0) (Some e.1) o) (find_is q es)
 
-    -- rising entries with the same value at every key are equal
-    pub same_entries : (es fs : List (K × V)) → Rises es → Rises fs
+    -- ascending entries with the same value at every key are equal
+    pub same_entries : (es fs : List (K × V)) → Ascends es → Ascends fs
         → ((q : K) → lookup (Sought q) es ≡ lookup (Sought q) fs) → es ≡ fs
     same_entries es fs s t h =
         entries_equal cmp total exact es fs (rw (sorted es s) tt) (rw (sorted fs t) tt)
@@ -63,15 +63,15 @@ module _ {K : Type 0} (cmp : K → K → Ordering) (total : IsTotalOrder cmp) (e
       pub gone : lookup (Sought p) rest ≡ None
       pub others : (q : K) → Sought p q ≡ false → lookup (Sought q) rest ≡ lookup (Sought q) es
       pub before : (q : K) → cmp q p ≡ Less → lookup (Sought q) es ≡ None
-      pub rises : Rises rest
+      pub ascends : Ascends rest
       pub size : length rest < length es + 1
 
     -- a key below the first has no value
-    none_below : (q : K) (e : K × V) (es : List (K × V)) → Rises (e ∷ es) → cmp q e.0 ≡ Less
+    none_below : (q : K) (e : K × V) (es : List (K × V)) → Ascends (e ∷ es) → cmp q e.0 ≡ Less
         → lookup (Sought q) (e ∷ es) ≡ None
     none_below q e es s l = lookup-none (Sought q) (e ∷ es) (none_below_head total q e es s l)
 
-    passes_here : (e : K × V) (es : List (K × V)) → Rises (e ∷ es) → Passes e.0 (e ∷ es) (Some e.1) es
+    passes_here : (e : K × V) (es : List (K × V)) → Ascends (e ∷ es) → Passes e.0 (e ∷ es) (Some e.1) es
     passes_here e es s = record {
       there = lookup_head (Sought e.0) e es (ap is_eq (key_self e.0));
       gone =
@@ -80,18 +80,18 @@ module _ {K : Type 0} (cmp : K → K → Ordering) (total : IsTotalOrder cmp) (e
           (ap is_eq (key_self e.0)));
       others = λ q f. sym (lookup_tail (Sought q) e es ((eq_by_cmp_equiv total).symm q e.0 ∙ f));
       before = λ q l. none_below q e es s l;
-      rises = sorted_tail cmp e.0 (keys_of es) s;
+      ascends = sorted_tail cmp e.0 (keys_of es) s;
       size = omega arith;
     }
 
-    passes_below : (p : K) (e : K × V) (es : List (K × V)) → Rises (e ∷ es) → cmp p e.0 ≡ Less
+    passes_below : (p : K) (e : K × V) (es : List (K × V)) → Ascends (e ∷ es) → cmp p e.0 ≡ Less
         → Passes p (e ∷ es) None (e ∷ es)
     passes_below p e es s l = record {
       there = none_below p e es s l;
       gone = none_below p e es s l;
       others = λ q f. refl;
       before = λ q k. none_below q e es s (total.trans q p e.0 k l);
-      rises = s;
+      ascends = s;
       size = omega arith;
     }
 
@@ -99,7 +99,7 @@ module _ {K : Type 0} (cmp : K → K → Ordering) (total : IsTotalOrder cmp) (e
     abbrev Takes : K → List (K × V) → Option V → List (K × V) → Type 0
     Takes p es v rest = (v ≡ value_at (Sought p) es) × (rest ≡ after_key (Sought p) es)
 
-    module _ {p : K} {v : Option V} {rest : List (K × V)} (e : K × V) (es : List (K × V)) (s : Rises (e ∷ es))
+    module _ {p : K} {v : Option V} {rest : List (K × V)} (e : K × V) (es : List (K × V)) (s : Ascends (e ∷ es))
         (t : Takes p (e ∷ es) v rest) where
       here : p ≡ e.0 → Passes p (e ∷ es) v rest × (length rest < length es + 1)
       here i =
@@ -121,7 +121,7 @@ module _ {K : Type 0} (cmp : K → K → Ordering) (total : IsTotalOrder cmp) (e
       gone = refl;
       others = λ q f. refl;
       before = λ q l. refl;
-      rises = tt;
+      ascends = tt;
       size = omega arith;
     })
 
@@ -133,7 +133,7 @@ module _ {K : Type 0} (cmp : K → K → Ordering) (total : IsTotalOrder cmp) (e
 
     module _ {p : K} {a b : Option V} {ls' rs' : List (K × V)} where
       by_order : (l r : K × V) (ls rs : List (K × V)) (o : Ordering) → cmp l.0 r.0 ≡ o
-          → Some (match_ordering o l.0 l.0 r.0) ≡ Some p → Rises (l ∷ ls) → Rises (r ∷ rs) → Takes p (l ∷ ls) a ls'
+          → Some (match_ordering o l.0 l.0 r.0) ≡ Some p → Ascends (l ∷ ls) → Ascends (r ∷ rs) → Takes p (l ∷ ls) a ls'
           → Takes p (r ∷ rs) b rs' → Turns p (l ∷ ls) (r ∷ rs) a b ls' rs'
       by_order l r ls rs Less h e s t x y =
           let one : p ≡ l.0 = cc in
@@ -151,8 +151,8 @@ module _ {K : Type 0} (cmp : K → K → Ordering) (total : IsTotalOrder cmp) (e
           let right = here r rs t y one in
           record { left = left; right = right.0; fewer = omega (arith, left.size, right.1) }
 
-      pub turn : (ls rs : List (K × V)) → lesser_key cmp (first_key ls) (first_key rs) ≡ Some p → Rises ls → Rises rs
-          → Takes p ls a ls' → Takes p rs b rs' → Turns p ls rs a b ls' rs'
+      pub turn : (ls rs : List (K × V)) → lesser_key cmp (first_key ls) (first_key rs) ≡ Some p → Ascends ls
+          → Ascends rs → Takes p ls a ls' → Takes p rs b rs' → Turns p ls rs a b ls' rs'
       turn [] [] e s t x y = cc
       turn [] (r ∷ rs) e s t x y =
           let right = here r rs t y (cc) in
