@@ -185,11 +185,18 @@ def test_half_a_proof(clone: Clone) -> None:
 
 
 def test_proved_once(clone: Clone) -> None:
-    """`make CHECKED=1` proves no crate below the program again, which `rt ci` has proved."""
+    """`make CHECKED=1` proves no crate below the program again, which `rt ci` has proved, and makes the program again
+    after a change of one."""
     env = {**os.environ, "PATH": f"{clone.folder}/front:{WITHOUT_RT}"}
-    for checked, proves in [("", True), ("1", False)]:
+    made, source = f"{clone.folder}/crates/dnorm/out/rlib/dnorm.proved", f"{clone.folder}/crates/dn_num/src/lib.rt"
+    cases = [("", "", [True, True]), ("1", "", [False, True]), ("1", made, [False, False]), ("1", source, [False, True])]
+    for after, (checked, change, wants) in enumerate(cases):
+        if change:
+            make({change: ""})
+            os.utime(change, (os.stat(clone.folder).st_mtime + 9 * after,) * 2)
         found = run(["make", "-n", "-C", clone.folder, f"CHECKED={checked}", "dnorm.proved"], env=env)
-        assert (found.status, b" build dn_num --statements" in found.out) == (0, proves)
+        builds = [f" build {it} --statements".encode() in found.out for it in ("dn_num", "dnorm")]
+        assert (found.status, builds) == (0, wants), (checked, change)
 
 
 def test_library(clone: Clone) -> None:
