@@ -9,19 +9,15 @@ from setuptools import Extension, setup
 
 # Where the file is, with its header: in a source distribution and in a clone.
 PLACES = ["c", "../released/c"]
-SOURCE = "build/c/libdnorm.c"
 
-
-def library() -> Extension:
-    """Returns the library, which is no module of Python, and is loaded by its path. Sources of a package are below
-    it."""
+libraries = []
+if not os.environ.get("DNORM_WITHOUT_LIBRARY"):
     found = [it for it in PLACES if os.path.exists(f"{it}/libdnorm.c")]
     if not found:
         sys.exit(f"dnorm: there is no libdnorm.c in {' or '.join(PLACES)}, of which the library is compiled")
     os.makedirs("build/c", exist_ok=True)
     for it in ["libdnorm.c", "dnorm.h"]:
         shutil.copy(f"{found[0]}/{it}", f"build/c/{it}")
-    return Extension("dnorm.libdnorm", [SOURCE], define_macros=[("DNORM_SHARED", None)])
-
-
-setup(ext_modules=[] if os.environ.get("DNORM_WITHOUT_LIBRARY") else [library()])
+    # It is no module of Python, and is loaded by its path. Sources of a package are below the package.
+    libraries.append(Extension("dnorm.libdnorm", ["build/c/libdnorm.c"], define_macros=[("DNORM_SHARED", None)]))
+setup(ext_modules=libraries)

@@ -1,9 +1,7 @@
 """Runs `dnorm-files`, `dnorm-explain` or `canon-in-parts`, as `python3 FILE NAME ..` with this file and the name of the
-command. Python then looks for modules in the folder of the file, and not in the current one, as it does for
-`python3 -m dnorm`."""
+command. Python then looks for modules in the folder of the file, and not in the current one."""
 
-# Python's own part of the module signal, which takes no time. Until the command is there, Ctrl-C just ends the process,
-# unless it is ignored.
+# Python's own part of signal takes no time. Until the command is there, Ctrl-C ends the process, unless it is ignored.
 import _signal  # type: ignore[import]
 import sys
 

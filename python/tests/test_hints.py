@@ -429,7 +429,7 @@ def test_every_hint() -> None:
     with pytest.raises(dnorm.Refused) as found:
         dnorm.check(graph, b"p aux sp ss 2\ns 1\ns 7\n")
     assert found.value.hint == "line 3 names it: s 7"
-    begins = [it["say"].partition("{")[0] for name in ("file", "line", "fault", "remedy") for it in causes.data()[name]]
+    begins = [it["say"].partition("{")[0] for name in ("file", "line", "fault", "remedy") for it in causes.DATA[name]]
     assert [it for it in begins if not any(hint.startswith(it) for hint in told)] == []
 
 
@@ -454,7 +454,7 @@ def test_odd_lines() -> None:
 def test_in_javascript(monkeypatch: pytest.MonkeyPatch) -> None:
     """What the schema promises: the same hints hold in JavaScript."""
     need("node")
-    data, lists, wanted = causes.data(), list[dict[str, Any]](), list[list[int]]()
+    data, lists, wanted = causes.DATA, list[dict[str, Any]](), list[list[int]]()
     hints = [it for name in ("file", "line", "fault", "remedy") for it in data[name]]
     for it in hints:
         for test in [*it["if"].values(), *it.get("unless", {}).values()]:

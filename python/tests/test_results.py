@@ -336,7 +336,7 @@ def test_long_steps(monkeypatch: pytest.MonkeyPatch) -> None:
     start = time.monotonic()
     with contextlib.ExitStack() as stack, monkeypatch.context() as patched:
         patched.setattr(dnorm.library, "library", lambda: library)
-        text = Text(ROADS, stack, Limit(0.2, "-"))
+        text = Text(ROADS, Limit(0.2, "-"))
         found = told(lambda: stack.enter_context(held(text)))
     took = time.monotonic() - start
     assert (found, library.freed) == ("TimedOut: -: took more than 0.2 seconds", 0), "a long step"

@@ -1,10 +1,8 @@
 """Checks, compares and canonicalises DIMACS network instances.
 
     >>> import dnorm
-    >>> dnorm.check("roads.gr")
-    Checked(kind='sp', fits=None, forms=())
-    >>> dnorm.compare("flow.min", "flow-cheaper.min")
-    Difference(what='cost', left=4, right=3, node=None, pair=(1, 2), amount=5, place=None)
+    >>> dnorm.checksum("roads.gr")
+    '4fe844f97748d4b1a5592a2ec3d9d374d1e1b96c471f2fac1ef2b0ae1780b470'
 
 All calls read texts by the library libdnorm, which comes with the package; `$DNORM_LIBRARY` can name another one. They
 open each file once. They take a file as a path, as bytes, or as a binary stream, which they read from where it is to

@@ -2,24 +2,15 @@
 before its own modules, and a folder of networks may have a `random.py` that makes them. Python has imported some
 modules before this one, as `contextlib`, so only the other commands never run a file of the current folder."""
 
+import contextlib
 import os
 import sys
 
-
-def is_module_run() -> bool:
-    """Whether Python is about to run this package by `-m`. While it imports the package, `-m` stands for the name of
-    the script. Python 3.9 does not have the words of the command line."""
-    words = getattr(sys, "orig_argv", [])
-    if sys.argv[:1] != ["-m"] or len(words) < len(sys.argv):
-        return False
-    module: str = words[-len(sys.argv)]
-    return module == "dnorm" or module.startswith("-") and module.endswith("mdnorm")
-
-
-if is_module_run():
-    try:
+# While Python imports the package, `-m` stands for the name of the script. Python 3.9 does not have the words.
+words = getattr(sys, "orig_argv", [])
+module = words[-len(sys.argv)] if sys.argv[:1] == ["-m"] and len(words) >= len(sys.argv) else ""
+if module == "dnorm" or module.startswith("-") and module.endswith("mdnorm"):
+    # The folder may be gone, and nothing in it can be found then.
+    with contextlib.suppress(OSError):
         if not getattr(sys.flags, "safe_path", False) and sys.path[:1] == [os.getcwd()]:
             del sys.path[0]
-    except OSError:
-        # The folder is gone, and nothing in it can be found.
-        pass

@@ -8,19 +8,19 @@ from typing import TYPE_CHECKING, Generic, Literal, Optional, TypeVar, Union
 
 # A canonical form.
 Form = Literal[1, 2]
-# The line of `compare` for each difference. Words in capitals stand for values.
+# The line of `compare` for each difference, in which words in capitals stand for values; and a sentence on it.
 DIFFERENCES = {
-    "kind": "differ kind LEFT RIGHT",
-    "nodes": "differ nodes LEFT RIGHT",
-    "supply": "differ supply NODE LEFT RIGHT",
-    "source": "differ source LEFT RIGHT",
-    "sink": "differ sink LEFT RIGHT",
-    "length": "differ pair TAIL HEAD length LEFT RIGHT",
-    "capacity": "differ pair TAIL HEAD capacity LEFT RIGHT",
-    "cost": "differ pair TAIL HEAD amount AMOUNT cost LEFT RIGHT",
-    "items": "differ length LEFT RIGHT",
-    "item": "differ item PLACE",
-    "point": "differ point NODE",
+    "kind": ("differ kind LEFT RIGHT", "They are of two kinds."),
+    "nodes": ("differ nodes LEFT RIGHT", "They differ in the number of nodes."),
+    "supply": ("differ supply NODE LEFT RIGHT", "They differ in the flow of node {node}."),
+    "source": ("differ source LEFT RIGHT", "They differ in the source."),
+    "sink": ("differ sink LEFT RIGHT", "They differ in the sink."),
+    "length": ("differ pair TAIL HEAD length LEFT RIGHT", "The least lengths {} differ."),
+    "capacity": ("differ pair TAIL HEAD capacity LEFT RIGHT", "The total capacities {} differ."),
+    "cost": ("differ pair TAIL HEAD amount AMOUNT cost LEFT RIGHT", "The least costs of {amount} units {} differ."),
+    "items": ("differ length LEFT RIGHT", "They differ in the number of items."),
+    "item": ("differ item PLACE", "They differ in item {place}."),
+    "point": ("differ point NODE", "They differ in the point of node {node}."),
 }
 # How many rows a notebook shows.
 ROWS = 10
@@ -91,7 +91,7 @@ class Difference:
     def __str__(self) -> str:
         tail, head = self.pair or (None, None)
         values = {**{name.upper(): it for name, it in vars(self).items()}, "TAIL": tail, "HEAD": head}
-        words = [values.get(it, it) for it in DIFFERENCES[self.what].split()]
+        words = [values.get(it, it) for it in DIFFERENCES[self.what][0].split()]
         return " ".join("none" if it is None else str(it) for it in words)
 
 

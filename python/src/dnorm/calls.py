@@ -1,10 +1,10 @@
 """The calls that read, check, canonicalise, compare and write texts. Each reads a text once."""
 
-import contextlib
 import hashlib
 import os
 import warnings
 from collections.abc import Callable
+from contextlib import ExitStack, suppress
 from typing import Literal, Optional, Union, overload
 
 from .answers import AnyDifference, Checked, Form, Same
@@ -12,81 +12,73 @@ from .errors import Refused
 from .files import File, Target, Text, enough_memory, name_of, sink_of
 from .instances import AnyInstance, ArcLines, Instance
 from .library import Held, LinesRead, held
-from .limits import Limit, at_once
+from .limits import Limit, Seconds, at_once
 from .names import KINDS, parts_of
 
 
 @overload
-def read(file: File, form: Form = 1, *, lines: Literal[False] = False, timeout: Optional[float] = None) -> AnyInstance:
+def read(file: File, form: Form = 1, *, lines: Literal[False] = False, timeout: Seconds = None) -> AnyInstance:
     ...
 
 
 @overload
-def read(
-    file: File, form: Form = 1, *, lines: Literal[True], timeout: Optional[float] = None
-) -> tuple[AnyInstance, ArcLines]:
+def read(file: File, form: Form = 1, *, lines: Literal[True], timeout: Seconds = None) -> tuple[AnyInstance, ArcLines]:
     ...
 
 
 def read(
-    file: File, form: Form = 1, *, lines: bool = False, timeout: Optional[float] = None
+    file: File, form: Form = 1, *, lines: bool = False, timeout: Seconds = None
 ) -> Union[AnyInstance, tuple[AnyInstance, ArcLines]]:
     """Returns the instance that a text poses: an `Sp`, `Max`, `Min`, `Ss`, `P2p` or `Co`. `form` is 1 or 2, and matters
     only for `Min`. With `lines`, returns the instance and the arc lines of the text, which is read once."""
     form, limit = checked_form(form), Limit(timeout, name_of(file))
-    with enough_memory(limit.name), contextlib.ExitStack() as stack:
+    with enough_memory(limit.name), ExitStack() as stack:
         reader = stack.enter_context(LinesRead()) if lines else None
-        found = stack.enter_context(held(Text(file, stack, limit), reader.take if reader else None)).instance(form)
+        found = stack.enter_context(held(Text(file, limit), reader.take if reader else None)).instance(form)
         arc_lines = ArcLines(found.kind, *reader.end()) if reader else None
     return (found, arc_lines) if arc_lines is not None else found
 
 
-def check(file: File, companion: Optional[File] = None, *, timeout: Optional[float] = None) -> Checked:
+def check(file: File, companion: Optional[File] = None, *, timeout: Seconds = None) -> Checked:
     """Checks a text, and with a companion that the companion fits.
 
     Returns the kind of the text, the kind of the companion, and the forms in which the text is canonical. Raises
     `Refused` if the text or the companion has a fault, or if the companion does not fit."""
-    limit = Limit(timeout, name_of(file))
-    with enough_memory(limit.name), contextlib.ExitStack() as stack:
-        own, fits = Sum(), None
-        found = stack.enter_context(held(Text(file, stack, limit), own.take))
+    limit, own, fits = Limit(timeout, name_of(file)), Sum(), None
+    with held(Text(file, limit), own.take) as found:
         if companion is not None:
-            beside = stack.enter_context(held(Text(companion, stack, limit)))
-            found.check_fit(beside)
-            fits = beside.kind
-        answer = Checked(found.kind, fits, forms_of(found.kind, own.checksum, found.checksum))
-    return answer
+            with held(Text(companion, limit)) as beside:
+                found.check_fit(beside)
+                fits = beside.kind
+        return Checked(found.kind, fits, forms_of(found.kind, own.checksum, found.checksum))
 
 
-def canon(file: File, form: Form = 1, *, timeout: Optional[float] = None) -> bytes:
+def canon(file: File, form: Form = 1, *, timeout: Seconds = None) -> bytes:
     """Returns the canonical text of a text. `form` is 1 or 2, and matters only for `min`."""
     parts: list[bytes] = []
-    limit = Limit(timeout, name_of(file))
-    with enough_memory(limit.name):
-        canon_into(parts.append, file, form, limit)
+    with enough_memory(name_of(file)):
+        canon_into(parts.append, file, form, timeout)
         return b"".join(parts)
 
 
-def canon_to(file: File, target: Target, form: Form = 1, *, timeout: Optional[float] = None) -> None:
+def canon_to(file: File, target: Target, form: Form = 1, *, timeout: Seconds = None) -> None:
     """Writes the canonical text of a text to a path or a binary stream.
 
     A path gets a new file once all of it is written, and keeps what it had if anything is raised; it may be the path of
     `file`. A path that ends in `.gz`, `.bz2`, `.xz` or `.zst` gets a compressed file. A stream, a device or a pipe has
-    got a prefix of the text if writing fails. Raises `Write` then, and for a path that ends as other compressed files
-    do."""
-    with sink_of(target) as sink:
-        canon_into(sink.take, file, form, Limit(timeout, name_of(file)))
+    got a prefix of the text if writing fails. Raises `Write` then, and for the ending of another compression."""
+    with sink_of(target) as take:
+        canon_into(take, file, form, timeout)
 
 
-def checksum(file: File, form: Form = 1, *, timeout: Optional[float] = None) -> str:
-    """Returns the SHA-256 checksum of the canonical text, in hexadecimal digits. Texts that pose the same problem have
-    the same checksum."""
+def checksum(file: File, form: Form = 1, *, timeout: Seconds = None) -> str:
+    """Returns the SHA-256 checksum of the canonical text, in hexadecimal: the same for texts of the same problem."""
     found = hashlib.sha256()
-    canon_into(found.update, file, form, Limit(timeout, name_of(file)))
+    canon_into(found.update, file, form, timeout)
     return found.hexdigest()
 
 
-def write(instance: Instance, target: Target, *, timeout: Optional[float] = None) -> None:
+def write(instance: Instance, target: Target, *, timeout: Seconds = None) -> None:
     """Writes a text that poses the problem of an instance, with its arcs or items in their order, to a path or a binary
     stream, as `canon_to` does. The text of an instance that was read is the canonical text.
 
@@ -94,21 +86,21 @@ def write(instance: Instance, target: Target, *, timeout: Optional[float] = None
     a fault, as a node that the graph does not have, `Refused` is raised with the line, and a path keeps what it had."""
     if not isinstance(instance, Instance):
         raise TypeError(f"write takes an instance, and then a target, and not {type(instance).__name__}")
-    expected = KINDS.get(parts_of(name_of(target))[1], instance.kind)
+    name = name_of(target)
+    expected = KINDS.get(parts_of(name)[1], instance.kind)
     if expected != instance.kind:
-        warnings.warn(f"{name_of(target)}: its ending is that of {expected}, not of {instance.kind}", stacklevel=2)
+        warnings.warn(f"{name}: its ending is that of {expected}, not of {instance.kind}", stacklevel=2)
+    with sink_of(target) as take:
+        text = Text(instance, Limit(timeout, name))
+        text.name = name
+        with held(text, take):
+            pass
 
-    with sink_of(target) as sink, enough_memory(sink.name), contextlib.ExitStack() as stack:
-        text = Text(instance, stack, Limit(timeout, sink.name))
-        text.name = sink.name
-        stack.enter_context(held(text, sink.take))
 
-
-def canon_into(take: Callable[[bytes], object], file: File, form: Form, limit: Limit) -> None:
+def canon_into(take: Callable[[bytes], object], file: File, form: Form, timeout: Seconds) -> None:
     """Gives the pieces of the canonical text of a text to `take`."""
-    form = checked_form(form)
-    with enough_memory(limit.name), contextlib.ExitStack() as stack:
-        found = stack.enter_context(held(Text(file, stack, limit)))
+    form, limit = checked_form(form), Limit(timeout, name_of(file))
+    with held(Text(file, limit)) as found:
         for piece in found.canonical(form):
             take(piece)
 
@@ -120,29 +112,25 @@ def checked_form(number: int) -> Form:
     return 1 if number == 1 else 2
 
 
-def compare(left: File, right: File, *, timeout: Optional[float] = None) -> Union[Same, AnyDifference]:
-    """Returns `Same` if both texts pose the same problem, or else their first `Difference`. As a condition, `Same` is
-    true and a `Difference` is false."""
+def compare(left: File, right: File, *, timeout: Seconds = None) -> Union[Same, AnyDifference]:
+    """Returns `Same`, which is true, if both texts pose the same problem, or else a `Difference`, which is false."""
     limit = Limit(timeout, name_of(left))
-    with enough_memory(limit.name), contextlib.ExitStack() as stack:
+    with enough_memory(limit.name), ExitStack() as stack:
         one, other = both_read((left, right), (stack, stack), limit)
         answer = one.first_difference(other)
     return answer
 
 
-def both_read(
-    files: tuple[File, File], stacks: tuple[contextlib.ExitStack, contextlib.ExitStack], limit: Limit
-) -> tuple[Held, Held]:
-    """Reads two texts, whose instances the stacks free: two files at the same time, and others one after the other, as
-    a pipe of the right one may be written only later."""
+def both_read(files: tuple[File, File], stacks: tuple[ExitStack, ExitStack], limit: Limit) -> tuple[Held, Held]:
+    """Reads two texts, whose instances the stacks free: files at the same time, others, as pipes, in their order."""
+    texts = [Text(it, limit) for it in files]
 
     def read(at: int) -> Held:
-        return stacks[at].enter_context(held(Text(files[at], stacks[at], limit)))
+        return stacks[at].enter_context(held(texts[at]))
 
     if not all(isinstance(it, (str, os.PathLike)) and os.path.isfile(it) for it in files):
         return read(0), read(1)
-    text = Text(files[1], stacks[1], limit)
-    return at_once(lambda: read(0), lambda: stacks[1].enter_context(held(text)), text.stop)
+    return at_once(lambda: read(0), lambda: read(1), texts[1].stop)
 
 
 class Sum:
@@ -168,6 +156,6 @@ def forms_of(kind: str, own: Optional[str], checksum: Callable[[Form], str]) -> 
     # Both forms are the same but for `min`.
     for it in (forms if kind == "min" else forms[:1]) if own else ():
         # The canonical text may have too many lines.
-        with contextlib.suppress(Refused):
+        with suppress(Refused):
             found += [it] * (own == checksum(it))
     return tuple(found) if kind == "min" or not found else forms

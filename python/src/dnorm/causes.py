@@ -1,19 +1,17 @@
-"""What shows the cause of a refusal: the refused line with its wrong word, the row that the line is to have, and hints
-that the text gives.
+"""What shows the cause of a refusal: the refused line with its wrong word, the row that it is to have, and hints.
 
 The hints are data, the file hints.json, which JavaScript can evaluate as well. It has
 
 - `rows`: the lines of each kind by their letters, the counted line last. Words in capitals, and s|t, are fields.
 - `marks`: which word of a refused line is wrong, by the number of the refusal: the one at the place `word`, counted
-  from 0; or else the first one of these `fields`, by default of all fields of numbers, that `unless` does not match, or
-  that is no number from `least` to `most`, of which each may be missing or be the name of a fact.
+  from 0; or the first of these `fields`, by default all of numbers, that `unless` does not match, or that is no number
+  from `least` to `most`, each of which may be missing or name a fact.
 - `file`, of which the first hint that holds counts; `line`, all of them, if none of `file` holds; `fault`, all of
   them; and `remedy`, all of them, if no other hint holds.
 
-A hint has facts with tests under `if`, all of which must hold; facts with tests under `unless`, none of which may hold;
-the text that it says, and perhaps `run`, a command that prints the text that is meant of the file. A test is a regular
-expression, which is searched; a number; or a list of numbers, one of which is to be the fact. The expressions have the
-same meaning in Python with re.ASCII and in JavaScript without flags. The facts are
+A hint has facts with tests under `if`, all of which must hold, and under `unless`, none of which may; the text that it
+says, and perhaps `run`, a command that prints the text that is meant of the file. A test is a number; a list of some;
+or a regular expression to search, the same in Python with re.ASCII and in JavaScript without flags. The facts are
 
 - `number`, that of the refusal; `line`, the refused line without LF, up to 4,096 bytes; `head`, the first 1,024 bytes
   of the text; `kind`, and `nodes` and `declared`, the last two numbers on the problem line; `word`, the wrong word;
@@ -23,8 +21,6 @@ same meaning in Python with re.ASCII and in JavaScript without flags. The facts 
   a shell. A text whose fact is not known is not said.
 """
 
-import contextlib
-import functools
 import json
 import os
 import re
@@ -39,44 +35,36 @@ Opener = Callable[[], "Iterator[bytes]"]
 
 # How many bytes of a line are kept and shown.
 KEPT, SHOWN = 4096, 200
-BLANK = rb"[ \t\r]"
-PROBLEM = re.compile(rb"%s*p%s" % (BLANK, BLANK))
-COUNTED = re.compile(rb"%s*[asqv](?:%s|$)" % (BLANK, BLANK))
+PROBLEM = re.compile(r"[ \t\r]*p[ \t\r]")
+COUNTED = re.compile(r"[ \t\r]*[asqv](?:[ \t\r]|$)")
+WORD = re.compile(r"[^ \t\r]+")
 # The names of files that git-annex has.
 ANNEX = "annex/objects/"
 # How many bytes of a text hints look at.
 HEAD = 1024
 # The marks of the compressions that endings name.
 PACKED = {".gz": b"\x1f\x8b", ".bz2": b"BZh", ".xz": b"\xfd7zX", ".zst": b"\x28\xb5\x2f\xfd"}
-
 # The refusals that a row explains. A field that is no number is s|t.
 ROWS = (1, 8, 9, 10, 11, 12, 13, 16, 17)
 # What is known of a refusal, by the names in hints. A function finds what takes a look at the text.
 FACTS = ("line", "head", "kind", "nodes", "declared", "rows", "word", "found", "seen", "sum", "naming", "file")
 Fact = Union[None, int, str, Callable[[], Optional[str]]]
-
-
-# The last members of a refusal: the refused line, with all its bytes made visible, or None for the end of a text; the
-# hints; and where its wrong word begins and ends there, if that is known.
+# The last members of a refusal: the refused line, made visible; the hints; where the wrong word begins and ends.
 Cause = tuple[Optional[str], Optional[str], Optional[tuple[int, int]]]
 
-
-@functools.lru_cache(maxsize=None)
-def data() -> Any:
-    """Returns what hints.json has."""
-    with open(os.path.join(os.path.dirname(__file__), "hints.json"), encoding="ascii") as file:
-        return json.load(file)
+with open(os.path.join(os.path.dirname(__file__), "hints.json"), encoding="ascii") as _file:
+    DATA: Any = json.load(_file)
 
 
-def visible(data: bytes) -> str:
-    """Returns bytes as `cat -vT` prints them: as characters of ASCII."""
+def visible(text: str) -> str:
+    """Returns characters that are bytes as `cat -vT` prints these: as characters of ASCII."""
 
     def one(byte: int) -> str:
         if byte >= 128:
             return f"M-{one(byte - 128)}"
         return chr(byte) if 32 <= byte < 127 else f"^{chr(byte ^ 64)}"
 
-    return "".join(map(one, data))
+    return "".join(map(one, map(ord, text)))
 
 
 def quoted(name: str) -> str:
@@ -87,11 +75,11 @@ def quoted(name: str) -> str:
     return re.sub(r"([^\w@%+=:,./-])", r"\\\1", name)
 
 
-def lines_of(pieces: Iterator[bytes]) -> Iterator[bytes]:
-    """Yields the first bytes of each line, without the LF."""
-    rest = b""
+def lines_of(pieces: Iterator[bytes]) -> Iterator[str]:
+    """Yields the first bytes of each line, as characters, without the LF."""
+    rest = ""
     for piece in pieces:
-        first, *others = piece.split(b"\n")
+        first, *others = piece.decode("latin-1").split("\n")
         rest = (rest + first)[:KEPT]
         for it in others:
             yield rest
@@ -103,41 +91,33 @@ def lines_of(pieces: Iterator[bytes]) -> Iterator[bytes]:
 def cause_of(
     text: Optional[Opener], name: Optional[str], line: Optional[int], number: int, node: Optional[int] = None
 ) -> Cause:
-    """Returns the cause of a refusal, by its line, its number and its node, also if the text is not known. `name` is
-    that of the file, if the bytes of the file are the text: hints have commands then."""
+    """Returns the cause of a refusal, also without its text. Hints have commands if `name` is a file of these bytes."""
     if text is None:
         return None, "\n".join(hints_of({**dict.fromkeys(FACTS), "number": number})) or None, None
     again, head = text, next(text(), b"")
     refused, problem = scanned(lines_of(again()), line)
-    words = words_of(refused or b"")
+    words = WORD.findall(refused or "")
     kind = "".join(problem[3:4] if problem[1:2] == ["aux"] else problem[1:2])
-    facts: dict[str, Fact] = {"number": number, "line": plain(refused or b""), "head": plain(head[:HEAD]), "kind": kind}
+    facts: dict[str, Fact] = {"number": number, "line": refused or "", "kind": kind}
+    facts["head"] = head[:HEAD].decode("latin-1")
     facts |= {"nodes": dict(enumerate(problem)).get(2), "declared": problem[-1] if problem else None}
-    facts |= {"rows": "; ".join(data()["rows"].get(kind, {}).values()), "file": name and quoted(name)}
+    facts |= {"rows": "; ".join(DATA["rows"].get(kind, {}).values()), "file": name and quoted(name)}
     facts |= {"found": lambda: str(sum(1 for it in lines_of(again()) if COUNTED.match(it)))}
     facts |= {"seen": lambda: seen(lines_of(again()), words), "sum": lambda: summed(lines_of(again()), line, words)}
     facts |= {"naming": lambda: named_by(lines_of(again()), node)}
     fields = fields_of(kind, words)
     at = place_of(number, words, fields, facts) if words else None
-    facts["word"] = plain(words[at]) if at is not None and at < len(words) else None
+    facts["word"] = words[at] if at is not None and at < len(words) else None
     # A line of numbers lacks its letter.
-    row = [row_of([fields[0].encode(), *words] if number == 1 else words, fields)] if fields and number in ROWS else []
+    row = [row_of([fields[0], *words] if number == 1 else words, fields)] if fields and number in ROWS else []
     shown = None if refused is None else visible(refused[:SHOWN])
     hint = "\n".join(row + hints_of(facts)) or None
-    return shown, hint, None if at is None else mark_of(refused or b"", at)
-
-
-def words_of(line: bytes) -> list[bytes]:
-    return re.findall(rb"[^ \t\r]+", line)
-
-
-def plain(text: bytes) -> str:
-    return text.decode("latin-1")
+    return shown, hint, None if at is None else mark_of(refused or "", at)
 
 
 def hints_of(facts: dict[str, Fact]) -> list[str]:
     """Returns what the hints say that hold."""
-    lists = {name: [it for it in data()[name] if holds(it, facts)] for name in ("file", "line", "fault", "remedy")}
+    lists = {name: [it for it in DATA[name] if holds(it, facts)] for name in ("file", "line", "fault", "remedy")}
     chosen = [*(lists["file"][:1] or lists["line"]), *lists["fault"]]
     told = [text for text in (said(it, facts) for it in chosen) if text]
     return told or [text for text in (said(it, facts) for it in lists["remedy"]) if text]
@@ -162,20 +142,19 @@ def said(hint: Any, facts: dict[str, Fact]) -> Optional[str]:
     return text.format(**known) if all(known.values()) else None
 
 
-def fields_of(kind: str, words: list[bytes]) -> list[str]:
-    """Returns what the words of a line are called in this kind, with its letter first, or nothing if they are not
-    known. A line of numbers lacks its letter."""
-    letter, rows = plain(words[0]) if words else "", data()["rows"].get(kind, {})
-    if rows and number_of(words[0] if words else b"") is not None:
+def fields_of(kind: str, words: list[str]) -> list[str]:
+    """Returns what the words of a line are called in this kind, its letter first, which a line of numbers lacks."""
+    letter, rows = words[0] if words else "", DATA["rows"].get(kind, {})
+    if rows and number_of(letter) is not None:
         # The counted line is the last one of a kind.
         return str([*rows.values()][-1]).split()
     if letter == "p":
-        heads = [it["p"].split() for it in data()["rows"].values()]
-        return next((it for it in heads if all(plain(w) == f for w, f in zip(words, it) if not f.isupper())), [])
+        heads = [it["p"].split() for it in DATA["rows"].values()]
+        return next((it for it in heads if all(w == f for w, f in zip(words, it) if not f.isupper())), [])
     return str(rows.get(letter, "")).split()
 
 
-def row_of(words: list[bytes], fields: list[str]) -> str:
+def row_of(words: list[str], fields: list[str]) -> str:
     """Returns the row that a line is to have, with the words that are there."""
     told = [f"{it}={visible(word[:40])}" if it.isupper() or "|" in it else it for it, word in zip(fields, words)]
     missing, extra = fields[len(words) :], words[len(fields) :]
@@ -183,19 +162,19 @@ def row_of(words: list[bytes], fields: list[str]) -> str:
     return " ".join([*told, *missing]) + (f": {visible(extra[0][:40])} is too many" if extra else more)
 
 
-def place_of(number: int, words: list[bytes], fields: list[str], facts: dict[str, Fact]) -> Optional[int]:
+def place_of(number: int, words: list[str], fields: list[str], facts: dict[str, Fact]) -> Optional[int]:
     """Returns the place of the wrong word on a line, the number of words if one is missing, or None."""
-    rule: dict[str, Any] = data()["marks"].get(str(number), {})
+    rule: dict[str, Any] = DATA["marks"].get(str(number), {})
     if number == 8 and fields:
         return min(len(words), len(fields))
     if not rule or "word" in rule:
         return int(rule["word"]) if rule else None
     bounds = (str(rule.get(it)) for it in ("least", "most"))
-    least, most = (number_of(str(facts.get(it, it)).encode()) for it in bounds)
+    least, most = (number_of(str(facts.get(it, it))) for it in bounds)
     for at, (name, word) in enumerate(zip(fields, words)):
         found = number_of(word)
         is_outside = found is not None and (least is not None and found < least or most is not None and found > most)
-        is_other = "unless" in rule and not re.search(rule["unless"], plain(word))
+        is_other = "unless" in rule and not re.search(rule["unless"], word)
         if (name in rule["fields"] if "fields" in rule else name.isupper()) and (
             is_outside or is_other or len(rule) == 1 and "fields" in rule
         ):
@@ -203,33 +182,34 @@ def place_of(number: int, words: list[bytes], fields: list[str], facts: dict[str
     return None
 
 
-def mark_of(line: bytes, at: int) -> Optional[tuple[int, int]]:
+def mark_of(line: str, at: int) -> Optional[tuple[int, int]]:
     """Returns where the word at this place, or the end of the words, is in what is shown of a line."""
-    places = [it.span() for it in re.finditer(rb"[^ \t\r]+", line)]
+    places = [it.span() for it in WORD.finditer(line)]
     start, end = places[at] if at < len(places) else (places[-1][1] + 1, places[-1][1] + 2)
     before = len(visible(line[:start].ljust(start)))
     return (before, before + max(1, len(visible(line[start : min(end, SHOWN)])))) if start < SHOWN else None
 
 
-def scanned(lines: Iterator[bytes], line: Optional[int]) -> tuple[Optional[bytes], list[str]]:
+def scanned(lines: Iterator[str], line: Optional[int]) -> tuple[Optional[str], list[str]]:
     """Returns the refused line, and the words of the problem line, if that comes before."""
     problem: list[str] = []
     for at, it in enumerate(lines, 1):
         if not problem and PROBLEM.match(it):
-            problem = [visible(one) for one in words_of(it[:SHOWN])]
+            problem = [*map(visible, WORD.findall(it[:SHOWN]))]
         if at == line:
             return it, problem
         if problem and line is None:
             break
-    return None if line is None else b"", problem
+    return None if line is None else "", problem
 
 
 def hint_of_compressed(head: bytes, name: str) -> str:
     """Returns what the first bytes of a file mean that cannot be decompressed as its name says."""
     if head.startswith(PACKED.get(ending_of(name), b"\0")):
         return "The file is cut or damaged: get it again"
-    facts: dict[str, Fact] = {**dict.fromkeys(FACTS, ""), "number": 31, "head": plain(head), "file": quoted(name)}
-    for it in data()["file"]:
+    facts: dict[str, Fact] = {**dict.fromkeys(FACTS, ""), "number": 31, "file": quoted(name)}
+    facts["head"] = head.decode("latin-1")
+    for it in DATA["file"]:
         if holds(it, facts):
             more = ", and its name says another thing" if "run" in it else ""
             return str(said({**it, "say": it["say"] + more}, facts))
@@ -238,30 +218,22 @@ def hint_of_compressed(head: bytes, name: str) -> str:
     return "The file is not compressed as its name says" if head else "The file is empty"
 
 
-def hint_of_missing(path: str) -> Optional[str]:
-    """Returns why a file may be missing: what a link leads to that leads nowhere."""
-    with contextlib.suppress(OSError, ValueError):
-        if ANNEX in os.readlink(path) and not os.path.exists(path):
-            return "The file is a pointer of git-annex, and the text is missing: git annex get"
-    return None
-
-
-def seen(lines: Iterator[bytes], words: list[bytes]) -> Optional[str]:
+def seen(lines: Iterator[str], words: list[str]) -> Optional[str]:
     """Returns where the node, the source or the sink of a refused line comes first."""
-    terminal = words[2] if words[2:] and words[2] in (b"s", b"t") else None
+    terminal = words[2] if words[2:] and words[2] in ("s", "t") else None
     for at, it in enumerate(lines, 1):
-        found = words_of(it)
+        found = WORD.findall(it)
         if found[:1] != words[:1] or len(found) < 3:
             continue
         if terminal and found[2] == terminal:
-            what = "source" if terminal == b"s" else "sink"
+            what = "source" if terminal == "s" else "sink"
             return f"The {what} is node {visible(found[1])}, by line {at}"
         if number_of(found[1]) == number_of(words[1]):
-            return f"{'Point' if words[0] == b'v' else 'Node'} {visible(words[1])} came first in line {at}"
+            return f"{'Point' if words[0] == 'v' else 'Node'} {visible(words[1])} came first in line {at}"
     return None
 
 
-def summed(lines: Iterator[bytes], line: Optional[int], words: list[bytes]) -> Optional[str]:
+def summed(lines: Iterator[str], line: Optional[int], words: list[str]) -> Optional[str]:
     """Returns the sum of the capacities of a pair before the refused line."""
     if len(words) not in (4, 6) or not line:
         return None
@@ -269,22 +241,22 @@ def summed(lines: Iterator[bytes], line: Optional[int], words: list[bytes]) -> O
     tail, head, cap = (number_of(it) for it in (*words[1:3], words[place]))
     if tail is None or head is None or cap is None:
         return None
-    arc = re.compile(rb"%s*a%s+\+?0*%d%s+\+?0*%d%s" % (BLANK, BLANK, tail, BLANK, head, BLANK))
-    arcs = (words_of(it) for it in islice(lines, line - 1) if arc.match(it))
+    arc = re.compile(rf"[ \t\r]*a[ \t\r]+\+?0*{tail}[ \t\r]+\+?0*{head}[ \t\r]")
+    arcs = (WORD.findall(it) for it in islice(lines, line - 1) if arc.match(it))
     total = sum(number_of(it[place]) or 0 for it in arcs if len(it) > place)
     return f"The capacities from {tail} to {head} sum to {total} before this line, and with it to {total + cap}"
 
 
-def named_by(lines: Iterator[bytes], node: Optional[int]) -> Optional[str]:
+def named_by(lines: Iterator[str], node: Optional[int]) -> Optional[str]:
     """Returns the first line of a companion that names a node."""
     for at, it in enumerate(lines, 1):
-        letter, *others = words_of(it) or [b""]
-        names = {b"s": 1, b"q": 2, b"v": 1}.get(letter, 0)
+        letter, *others = WORD.findall(it) or [""]
+        names = {"s": 1, "q": 2, "v": 1}.get(letter, 0)
         if node is not None and node in map(number_of, others[:names]):
             return f"line {at} names it: {visible(it[:SHOWN])}"
     return None
 
 
-def number_of(word: bytes) -> Optional[int]:
+def number_of(word: str) -> Optional[int]:
     """Returns the number that a word spells, if it does."""
-    return int(word) if re.fullmatch(rb"[+-]?[0-9]{1,4000}", word) else None
+    return int(word) if re.fullmatch("[+-]?[0-9]{1,4000}", word) else None

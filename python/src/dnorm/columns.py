@@ -3,7 +3,7 @@
 import importlib
 import operator
 from array import array
-from collections.abc import Callable, Iterable, Iterator
+from collections.abc import Callable, Iterable
 from typing import TYPE_CHECKING, Any, NamedTuple, Protocol
 
 if TYPE_CHECKING:
@@ -14,17 +14,8 @@ if TYPE_CHECKING:
 else:
 
     class Column(Protocol):
-        """Numbers of 64 signed bits that cannot be written: a numpy array of `int64`, or a `memoryview` of an
-        `array('q')` where numpy is missing."""
-
-        def __len__(self) -> int:
-            """Returns the number of numbers."""
-
-        def __getitem__(self, place: int, /) -> int:
-            """Returns the number at this place, counted from 0."""
-
-        def __iter__(self) -> Iterator[int]:
-            """Yields the numbers."""
+        """Numbers of 64 signed bits, read-only: a numpy array of `int64`, or a `memoryview` where numpy is missing. It
+        has a length, indexes from 0, and yields its numbers."""
 
         def tolist(self) -> list[int]:
             """Returns the numbers as integers of Python."""
@@ -63,9 +54,8 @@ class Own(NamedTuple):
 
 
 def frozen(name: str, given: Any) -> Any:
-    """Returns a column of the same numbers that cannot be written: a copy, except of an `Own`. An array that cannot be
-    written may be a view of one that can. Raises TypeError for what is not an array of 64 signed bits; errors call it
-    by this name."""
+    """Returns a read-only column of the same numbers: a copy, except of an `Own`, since a read-only array may be a view
+    of one that can be written. Raises TypeError, with this name, for what is not an array of 64 signed bits."""
     np = numpy_here()
     if isinstance(given, Own):
         return given.numbers
@@ -84,8 +74,7 @@ def is_array(np: Any, given: Any) -> bool:
 
 
 def column_of(name: str, given: Any) -> Any:
-    """Returns a column of its own with these numbers. Raises TypeError if one is not whole, and OverflowError if one
-    does not fit."""
+    """Returns a column of its own with these numbers. Raises the errors of `numbers_of`."""
     np = numpy_here()
     if is_array(np, given) and given.dtype.kind in "iu":
         if given.size and int(given.max()) > MOST:
@@ -95,8 +84,7 @@ def column_of(name: str, given: Any) -> Any:
 
 
 def numbers_of(given: Iterable[Any], name_at: Callable[[int], str]) -> "array[int]":
-    """Returns an array of these numbers. Raises TypeError if one is not whole, and OverflowError if one does not fit;
-    errors call it by the name that `name_at` returns for its place."""
+    """Returns an array of numbers. Raises TypeError, by `name_at`, if one is not whole, OverflowError if it is wide."""
     found = array("q")
     try:
         found.extend(map(operator.index, given))

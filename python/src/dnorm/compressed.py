@@ -16,27 +16,19 @@ Reads = Callable[[int], bytes]
 class Zstandard:
     """A decompressor of the module `zstandard` with the members that those of the standard library have."""
 
-    # The compressed bytes that are decompressed at a time: 256 bytes can have some 8 MB of text.
-    FEW = 256
-
     def __init__(self, module: Any) -> None:
         self._it = module.ZstdDecompressor().decompressobj()
-        self._ahead, self._rest = b"", b""
-
-    @property
-    def eof(self) -> bool:
-        return bool(self._it.eof) and not self._ahead
-
-    @property
-    def unused_data(self) -> bytes:
-        return bytes(self._it.unused_data) + self._rest
+        self._ahead = self._rest = self.unused_data = b""
+        self.eof = False
 
     def decompress(self, data: bytes, size: int) -> bytes:
         self._rest += data
         while self._rest and not self._it.eof and len(self._ahead) < size:
-            self._ahead += self._it.decompress(self._rest[: self.FEW])
-            self._rest = self._rest[self.FEW :]
+            # So few bytes can have some 8 MB of text.
+            self._ahead += self._it.decompress(self._rest[:256])
+            self._rest = self._rest[256:]
         found, self._ahead = self._ahead[:size], self._ahead[size:]
+        self.eof, self.unused_data = bool(self._it.eof) and not self._ahead, bytes(self._it.unused_data) + self._rest
         return found
 
 
@@ -48,8 +40,7 @@ def by_zstd(make: Callable[[Any], Any], other: Callable[[Any], Any]) -> Any:
     raise OSError("zstd needs Python 3.14 or the module zstandard")
 
 
-# How the files of each ending are read and written. The modules are imported where they are used, since some builds of
-# Python lack one.
+# How the files of each ending are read and written, by modules that some builds of Python lack.
 DECOMPRESSORS: dict[str, Callable[[], Any]] = {
     # 15 is the greatest window, and 16 asks for the header and the checksum of gzip.
     ".gz": lambda: import_module("zlib").decompressobj(15 + 16),
@@ -72,18 +63,16 @@ COMPRESSORS: dict[str, Callable[[BinaryIO], Any]] = {
 
 
 def compression_of(name: str, is_written: bool = False) -> str:
-    """Returns the ending by which the file of this name is compressed, or nothing if it is plain. Raises OSError for a
-    compression that is not read or written."""
+    """Returns the ending of the compression of this file, or nothing. Raises OSError for one that is not supported."""
     if reason := unknown_compression(name) or (unread_text(name) if is_written else ""):
         raise OSError(reason)
     return packed_of(name)[1]
 
 
 def pieces(read: Reads, ending: str) -> Iterator[bytes]:
-    """Yields what a compressed file decompresses to, piece by piece. The file has one stream or several, one after
-    another. Raises EOFError if the last one is cut, an error of its module if one is corrupt, and OSError if anything
-    follows one that the tool of the format does not take. The functions of the standard library ignore what follows a
-    stream of bzip2 and xz, even a corrupt stream."""
+    """Yields what a compressed file of one or several streams decompresses to. Raises EOFError if the last one is cut,
+    an error of its module if one is corrupt, and OSError if anything follows one that the tool of the format does not
+    take: the functions of the standard library ignore what follows a stream of bzip2 and xz, even a corrupt stream."""
     data = read(SIZE)
     while True:
         stream, size = DECOMPRESSORS[ending](), 0
@@ -95,20 +84,13 @@ def pieces(read: Reads, ending: str) -> Iterator[bytes]:
             size = len(piece)
             yield piece
             data = read(SIZE) if size < SIZE and not stream.eof else b""
-        zeros, data = after_zeros(bytes(stream.unused_data), read)
+        zeros, data = 0, bytes(stream.unused_data) or read(SIZE)
+        while data[:1] == b"\0":
+            rest = data.lstrip(b"\0")
+            zeros, data = zeros + len(data) - len(rest), rest or read(SIZE)
         # The tool of the format neither fails nor warns at such zeros, and reads on.
         are_allowed = ending == ".gz" and not data or ending == ".xz" and zeros % 4 == 0
         if zeros and not are_allowed:
             raise OSError(f"{zeros} zero {'byte follows' if zeros == 1 else 'bytes follow'} the compressed data")
         if not data:
             return
-
-
-def after_zeros(data: bytes, read: Reads) -> tuple[int, bytes]:
-    """Returns the number of zeros that come next, in the data or in the file, and the data behind them, if there are
-    any."""
-    zeros, rest = 0, b""
-    while not rest and (data := data or read(SIZE)):
-        rest = data.lstrip(b"\0")
-        zeros, data = zeros + len(data) - len(rest), b""
-    return zeros, rest

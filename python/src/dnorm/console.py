@@ -37,8 +37,7 @@ def stop(number: int, _: object) -> NoReturn:
 
 
 def heed() -> None:
-    """Lets signals end the run. What is ignored, as by nohup, stays ignored, but for SIGCHLD: the status of a child is
-    lost then, and Popen takes it for 0."""
+    """Lets signals end the run. What is ignored stays so, but for SIGCHLD, without which no child has a status."""
     signal.signal(signal.SIGCHLD, signal.SIG_DFL)
     for it in SIGNALS:
         if signal.getsignal(it) != signal.SIG_IGN:
@@ -61,8 +60,7 @@ def has_output() -> bool:
 
 
 class Console:
-    """Standard output and standard error. A progress bar is drawn on standard error while it is a terminal and tasks
-    run; their threads call `step`."""
+    """Standard output and standard error, where a terminal has a progress bar of tasks, whose threads call `step`."""
 
     def __init__(self) -> None:
         self._out = open(1, "wb", buffering=0, closefd=False)
@@ -96,8 +94,7 @@ class Console:
                 self._drawn = drawn
 
     def print(self, text: Union[str, bytes]) -> None:
-        """Writes text to standard output, and bytes as they are. Raises Write if that fails, and Stopped if nothing
-        reads it any more: then the run ends as other programs do."""
+        """Writes text to standard output, or bytes as they are. Raises Write, and Stopped if nothing reads it."""
         self.hide()
         try:
             if isinstance(text, str):
@@ -126,8 +123,7 @@ class Console:
 
 
 def for_terminal(text: str) -> str:
-    """Returns lines in which every character that a terminal could take for a command is written as \\xNN, as a byte of
-    it."""
+    """Returns lines in which `shown` writes every character that a terminal could take for a command."""
     return "\n".join(map(shown, text.split("\n")))
 
 

@@ -10,13 +10,12 @@ import tempfile
 from collections.abc import Callable, Iterator
 from typing import BinaryIO, NamedTuple, Optional, Protocol, Union
 
-from .causes import ANNEX, SHOWN, Cause, cause_of, hint_of_compressed, hint_of_missing
+from .causes import ANNEX, SHOWN, Cause, cause_of, hint_of_compressed
 from .compressed import COMPRESSORS, SIZE, Reads, compression_of, pieces
 from .errors import DnormError, Memory, Read, Write
 from .instances import Instance
 from .limits import Limit, Timed
 from .names import HIDDEN, real
-
 
 # Why what is found is not opened.
 NO_FILE = "it is neither a file nor a link to one"
@@ -56,8 +55,8 @@ def reason_of(error: Exception) -> str:
 
 @contextlib.contextmanager
 def failing(kind: Union[type[Read], type[Write]], name: str) -> Iterator[None]:
-    """Raises an error of this kind if anything fails, with the reason. Errors of this package, wrong types, lack of
-    memory, and the error of a handler of an alarm stay what they are."""
+    """Raises an error of this kind if anything fails, but for an error of this package, a wrong type, lack of memory,
+    or the error of a handler of an alarm."""
     try:
         yield
     except (DnormError, TypeError, MemoryError):
@@ -167,13 +166,12 @@ def mark_of(file: BinaryIO) -> Optional[tuple[int, int]]:
 
 class Text:
     """A text that is read once, from its beginning. The file of a path is opened once, at the first piece, within the
-    bounds of what was found, if there are any, and the stack closes it; `ending` is that of its compression. `size`
-    counts the bytes that were read."""
+    bounds of what was found, if there are any. It has the `ending` of a compression, and `size` bytes were read."""
 
-    def __init__(self, file: File, stack: contextlib.ExitStack, limit: Limit, bounds: Optional[Bounds] = None) -> None:
+    def __init__(self, file: File, limit: Limit, bounds: Optional[Bounds] = None) -> None:
         self.file, self.name, self.limit = file, name_of(file), limit
         self.ending, self.size = "", 0
-        self._stack, self._bounds, self._is_wanted = stack, bounds, True
+        self._bounds, self._is_wanted = bounds, True
         self._opened: Optional[io.FileIO] = None
         self._mark: Optional[tuple[int, int]] = None
         self._pieces = self._begun()
@@ -185,7 +183,7 @@ class Text:
             if isinstance(file, str) and "\n" in file and not os.path.lexists(file):
                 raise TypeError("a str is a path, and there is no such file: give a text as bytes")
             if not self._opened:
-                self._opened = self._stack.enter_context(opened(file, self.limit, self._bounds))
+                self._opened = opened(file, self.limit, self._bounds)
                 self._mark, self.ending = mark_of(self._opened), compression_of(self.name)
             timed = Timed(self._opened, self.limit)
             yield from self._decompressed(self._opened, timed.read) if self.ending else of_stream(timed)
@@ -217,13 +215,22 @@ class Text:
             with failing(Read, self.name):
                 piece = next(self._pieces, None)
         except Read as error:
-            raise Read(error.name, error.reason, error.hint or hint_of_missing(self.name)) from error.__cause__
+            hint = error.hint
+            with contextlib.suppress(OSError, ValueError):
+                if ANNEX in os.readlink(self.name) and not os.path.exists(self.name):
+                    hint = "The file is a pointer of git-annex, and the text is missing: git annex get"
+            raise Read(error.name, error.reason, hint) from error.__cause__
         self.size += len(piece or b"")
         return piece
 
     def stop(self) -> None:
         """Lets reading the text fail from the next piece on, for a thread whose answer is no longer wanted."""
         self._is_wanted = False
+
+    def close(self) -> None:
+        """Closes the file of a path."""
+        if self._opened:
+            self._opened.close()
 
     def stay_same(self) -> None:
         """Raises Read if the file of the text was written since it was opened."""
@@ -248,22 +255,15 @@ class Text:
         return self._begun()
 
 
-class Sink(NamedTuple):
-    """Where a text goes, piece by piece, by `take`. Errors call it by its name."""
-
-    name: str
-    take: Callable[[bytes], object]
-
-
 @contextlib.contextmanager
-def sink_of(target: Target) -> Iterator[Sink]:
-    """Opens a target. A path has the file only if nothing is raised before the end, and then all of it."""
+def sink_of(target: Target) -> Iterator[Callable[[bytes], object]]:
+    """Opens a target, and yields what takes its pieces. A path gets all of the file, or nothing."""
     name, stream, start = name_of(target), target, None
     with contextlib.ExitStack() as stack:
         if isinstance(stream, (str, os.PathLike)):
             with failing(Write, name):
                 start = COMPRESSORS.get(compression_of(name, is_written=True))
-            stream = stack.enter_context(file_at(name))
+            stream = stack.enter_context(whole_file(name))
             stream = stack.enter_context(written_file(functools.partial(start, stream), name)) if start else stream
         to = stream
 
@@ -276,22 +276,15 @@ def sink_of(target: Target) -> Iterator[Sink]:
                 # What compresses takes all.
                 piece = piece[len(piece) if count is None or start else count :]
 
-        yield Sink(name, take)
+        yield take
         if to is target:
             with failing(Write, name):
                 getattr(to, "flush", lambda: None)()
 
 
-def file_at(name: str) -> contextlib.AbstractContextManager[BinaryIO]:
-    """Opens the file of a path to be written. A device or a pipe cannot be replaced, so it is written itself."""
-    is_replaced = os.path.isfile(name) or not os.path.exists(name)
-    return whole_file(name) if is_replaced else written_file(lambda: open(name, "wb"), name)
-
-
 @contextlib.contextmanager
 def written_file(start: Callable[[], BinaryIO], name: str) -> Iterator[BinaryIO]:
-    """Opens a file to be written, and closes it at the end. Raises Write if that fails, unless something else was
-    raised before; errors call the file by this name."""
+    """Opens a file to be written, and closes it. Raises Write, with this name, if that fails and nothing else did."""
     with failing(Write, name):
         file = start()
     try:
@@ -306,8 +299,12 @@ def written_file(start: Callable[[], BinaryIO], name: str) -> Iterator[BinaryIO]
 
 @contextlib.contextmanager
 def whole_file(name: str) -> Iterator[BinaryIO]:
-    """Opens a new file in the folder of the file of this name. At the end the new file takes the place and the mode of
-    the old one. If anything is raised before, the new file is removed, and the old one stays as it is."""
+    """Opens a new file, which takes the place and the mode of the file of this name at the end, or is removed if
+    anything is raised before. A device or a pipe cannot be replaced, so it is written itself."""
+    if os.path.exists(name) and not os.path.isfile(name):
+        with written_file(lambda: open(name, "wb"), name) as file:
+            yield file
+        return
     path = real(name)
     new = os.path.join(os.path.dirname(path), f".dnorm-{secrets.token_hex(8)}")
     try:

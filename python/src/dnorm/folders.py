@@ -1,7 +1,7 @@
 """The texts of folders, and a check of all of them."""
 
 import os
-from collections.abc import Iterable, Sequence
+from collections.abc import Iterable
 from concurrent.futures import ThreadPoolExecutor
 from dataclasses import dataclass
 from typing import Optional, TypeVar, Union
@@ -10,36 +10,27 @@ from .answers import Form, table
 from .calls import checked_form
 from .errors import DnormError, Read
 from .files import NO_FILE, Bounds, reason_of
-from .limits import check_seconds
+from .limits import Limit, Seconds
 from .manifests import Manifest
-from .names import ENDINGS, HIDDEN, is_excluded, is_text, real, unread_text
+from .names import ENDINGS, HIDDEN, Names, is_excluded, is_text, real, unread_text
 from .program import processors
 from .records import Partners, Reading, Record, counts_of
 
 EXCLUDES, LINK_TO_FOLDER = "--exclude leaves it out", "it is a link to a folder, which is not followed"
 # The folder of CVS, which has a list in each.
 CVS, CVS_LIST = "CVS", "Entries"
-
 Result = TypeVar("Result")
-
-
 # Files, each with the error of one that is not read.
 Files = dict[str, Optional[DnormError]]
 
 
 def find(
-    paths: Iterable[str],
-    endings: Sequence[str],
-    excluded: Sequence[str] = (),
-    *,
-    follow: bool = False,
-    within: Optional[str] = None,
+    paths: Iterable[str], endings: Names, excluded: Names = (), *, follow: bool = False, within: Optional[str] = None
 ) -> "Found":
     """Returns the files that these paths name. The path of a folder names all files below it that end in one of these
-    endings, in small letters or capitals, compressed or not, except what matches an excluded pattern. A folder that
-    cannot be read, or that has no such file, has an error, and so has a text behind a compression that is not read, and
-    what is no file, as a pipe. Links lead to files below these folders, unless they are followed. Within a folder, the
-    paths are those of files that were found there."""
+    endings, in any case, compressed or not, except what matches an excluded pattern. A folder that cannot be read, or
+    has no such file, has an error, and so has a text behind another compression, and what is no file, as a pipe. Links
+    lead to files below these folders, unless they are followed. Within a folder, the paths were found there."""
     found, folders, named = Found(endings, excluded), list[str](), set[str]()
     for path in paths:
         if within is not None:
@@ -59,9 +50,8 @@ def find(
     return found
 
 
-def error_of(path: str, endings: Sequence[str]) -> Optional[DnormError]:
-    """Returns the error of what is found under the name of a text, and is not opened: a file that is not decompressed,
-    and a pipe, for which opening could wait without end."""
+def error_of(path: str, endings: Names) -> Optional[DnormError]:
+    """Returns the error of what has the name of a text, and is not opened: another compression, or a pipe."""
     is_none = not os.path.isfile(path) and os.path.exists(path)
     reason = unread_text(path, endings) or (NO_FILE if is_none else "")
     return Read(path, reason, EXCLUDES) if reason else None
@@ -72,19 +62,17 @@ def in_order_of_names(found: dict[str, Result]) -> dict[str, Result]:
 
 
 class Found:
-    """What paths name: the `files`, each with the error of a path that cannot be searched; the `others` below these
-    paths, each with the reason why it is not looked at, both in the order of the names; how many files and folders were
-    `excluded`, by which of the `patterns`; and within which `bounds` the files are opened."""
+    """What paths name: the `files` and the `others` below these paths, in the order of the names, each with an error or
+    the reason why it is not read; how many were `excluded`, by which `patterns`; and the `bounds` of opened files."""
 
-    def __init__(self, endings: Sequence[str], patterns: Sequence[str]) -> None:
+    def __init__(self, endings: Names, patterns: Names) -> None:
         self.endings, self.patterns, self.excluded, self.used = endings, patterns, 0, set[str]()
         self.files: Files = {}
         self.others: dict[str, str] = {}
         self.bounds: Optional[Bounds] = None
 
     def below(self, folder: str) -> Files:
-        """Returns the files below a folder, and keeps the others. Links to files count as files, even if they lead
-        nowhere; links to folders are not followed."""
+        """Returns the files below a folder, also links that lead nowhere, and keeps the others, as links to folders."""
         files: Files = {}
         errors: list[OSError] = []
         for at, folders, names in os.walk(folder, onerror=errors.append):
@@ -93,8 +81,7 @@ class Found:
             self.others.update(dict.fromkeys(links, LINK_TO_FOLDER))
             for path in (os.path.join(at, it) for it in names if self.is_wanted(folder, at, it)):
                 self.take(path, files)
-        unread = {os.fsdecode(it.filename): reason_of(it) for it in errors}
-        return files | {name: Read(name, reason) for name, reason in unread.items()}
+        return files | {os.fsdecode(it.filename): Read(os.fsdecode(it.filename), reason_of(it)) for it in errors}
 
     def take(self, path: str, files: Optional[Files] = None) -> None:
         """Adds what was found at a path to the files, or else to the other files."""
@@ -150,24 +137,18 @@ class Collection:
 
 def check_folder(
     *paths: Union[str, os.PathLike[str]],
-    exclude: Sequence[str] = (),
+    exclude: Names = (),
     form: Form = 1,
-    timeout: Optional[float] = None,
+    timeout: Seconds = None,
     follow: bool = False,
 ) -> Collection:
     """Checks the texts of folders, and that companions fit the graphs of their names, as `dnorm-files check
-    --companions` does. Reads each file once, as many at the same time as there are processors. Raises no error for a
-    file that is refused, cannot be read, or takes more than `timeout` seconds: its record has it. Links lead to files
-    of these folders, unless `follow` is true."""
+    --companions` does. Reads each file once, as many at the same time as there are processors. The record of a file has
+    its error, also if it takes more than `timeout` seconds. Links lead out of folders only if `follow` is true."""
     form = checked_form(form)
-    if timeout is not None:
-        check_seconds(timeout)
+    # A wrong one is an error of the call, and not of each file.
+    Limit(timeout, "-")
     found = find([os.fspath(it) for it in paths], ENDINGS, exclude, follow=follow)
-    reading = Reading(form, Partners(found.files), timeout=timeout, bounds=found.bounds)
-
-    def record(name: str) -> Record:
-        error = found.files[name]
-        return Record(name, error=error) if error else reading.record(name)
-
+    reading = Reading(form, Partners(found.files), timeout=timeout, bounds=found.bounds, files=found.files)
     with ThreadPoolExecutor(processors()) as pool:
-        return Collection(tuple(pool.map(record, found.files)), found.others, found.excluded, form)
+        return Collection(tuple(pool.map(reading.record, found.files)), found.others, found.excluded, form)

@@ -1,5 +1,4 @@
-"""Instances as columns of numbers; and the arc lines of a text in its order, and a flow on canonical arcs put back on
-them."""
+"""Instances as columns of numbers; and the arc lines of a text, on which a flow on canonical arcs is put back."""
 
 from __future__ import annotations
 
@@ -31,8 +30,7 @@ else:
 LETTERS = {"min": "a", "max": "a", "sp": "a", "ss": "s", "p2p": "q", "co": "v"}
 # How many rows are made of columns at a time, and how many lines of text.
 STEP, LINES = 1 << 16, 1 << 12
-
-
+Made = TypeVar("Made", bound="Instance")
 Row = TypeVar("Row", bound=tuple[int, ...], covariant=True)
 
 
@@ -142,9 +140,6 @@ class Instance:
         return pandas.DataFrame({it: numpy.array(getattr(self, it)) for it in column_names(type(self))})
 
 
-Made = TypeVar("Made", bound=Instance)
-
-
 def column_names(kind: type[Instance]) -> list[str]:
     """Returns the attributes of a class that are columns, in the order of the numbers on a counted line."""
     return [it.name for it in fields(kind) if str(it.type) == "Column"]
@@ -182,7 +177,8 @@ def ends_of(nodes: int, ends: list[int]) -> Any:
 @dataclass(frozen=True, eq=False, repr=False)
 class Graph(Instance):
     """A graph with the nodes 1 to `nodes`. Arc i goes from `tails[i]` to `heads[i]`. The arcs of an instance that was
-    read are in the order of the canonical text: by rising tail, then by rising head."""
+    read are in the order of the canonical text: by rising tail, then by rising head. `to_networkx` and `to_scipy` of
+    `Sp` and `Max` raise ValueError if arcs are parallel, which no instance has that was read."""
 
     nodes: int
     tails: Column
@@ -241,27 +237,24 @@ class Graph(Instance):
 
 @dataclass(frozen=True, eq=False, repr=False)
 class Sp(Arcs[tuple[int, int, int]], Graph):
-    """An `sp` graph: `lengths[i]` is the length of arc i. If it was read, an ordered pair of nodes has at most one
-    arc."""
+    """An `sp` graph: `lengths[i]` is the length of arc i. If it was read, each ordered pair has at most one arc."""
 
     kind: ClassVar[Literal["sp"]] = "sp"
     lengths: Column
 
     def to_networkx(self) -> Network:
-        """Returns a `networkx.DiGraph`, with the lengths as the attribute `weight`. Raises ValueError if arcs are
-        parallel, which no instance has that was read."""
+        """Returns a `networkx.DiGraph`, with the lengths as the attribute `weight`."""
         return self._network("weight")
 
     def to_scipy(self) -> csr_matrix:
         """Returns a `scipy.sparse.csr_matrix` of the lengths. Node i has row and column i - 1. Arcs of length 0 are
-        stored entries, which `scipy.sparse.csgraph` takes for arcs. Raises ValueError if arcs are parallel."""
+        stored entries, which `scipy.sparse.csgraph` takes for arcs."""
         return self._matrix(self.lengths)
 
 
 @dataclass(frozen=True, eq=False, repr=False)
 class Max(Arcs[tuple[int, int, int]], Graph):
-    """A `max` problem: `capacities[i]` is the capacity of arc i. If it was read, an ordered pair of nodes has at most
-    one arc."""
+    """A `max` problem: `capacities[i]` is the capacity of arc i. If it was read, each pair has at most one arc."""
 
     kind: ClassVar[Literal["max"]] = "max"
     source: int
@@ -272,15 +265,12 @@ class Max(Arcs[tuple[int, int, int]], Graph):
         return iter([f"n {self.source} s\nn {self.sink} t\n"])
 
     def to_networkx(self) -> Network:
-        """Returns a `networkx.DiGraph`, whose edges have the attribute `capacity`. Its attributes
-        `graph["source"]` and `graph["sink"]` are the terminals. Raises ValueError if arcs are parallel, which no
-        instance has that was read."""
+        """Returns a `networkx.DiGraph` with `capacity` of its edges, and `graph["source"]` and `graph["sink"]`."""
         return self._network("capacity", source=self.source, sink=self.sink)
 
     def to_scipy(self) -> csr_matrix:
         """Returns a `scipy.sparse.csr_matrix` of the capacities. Node i has row and column i - 1. Where
-        `scipy.sparse.csgraph.maximum_flow` takes only 32 bits, convert it: `.astype("int32")`. Raises ValueError if
-        arcs are parallel."""
+        `scipy.sparse.csgraph.maximum_flow` takes only 32 bits, convert it: `.astype("int32")`."""
         return self._matrix(self.capacities)
 
 
@@ -314,9 +304,8 @@ class Min(Arcs[tuple[int, int, int, int, int]], Graph):
         """Returns a `networkx.MultiDiGraph` for solvers that know no lower bounds, as `networkx.network_simplex`.
 
         The lower bounds are sent beforehand. An edge has the attributes `weight`, its COST; `capacity`, its CAP minus
-        its LOW; and `low`, its LOW, which adds to the flow that a solver finds. A node has the attribute `demand`, the
-        flow that it then lacks. `graph["cost"]` is the cost of the lower bounds, which adds to the cost that a solver
-        finds."""
+        its LOW; and `low`, its LOW. A node has the attribute `demand`, the flow that it then lacks. `graph["cost"]` is
+        the cost of the lower bounds. The latter and `low` add to the cost and the flow that a solver finds."""
         self.check_ends()
         fixed = sum(low * cost for _, _, low, _, cost in self.arcs())
         graph: MultiNetwork = importlib.import_module("networkx").MultiDiGraph(cost=fixed)
@@ -497,8 +486,7 @@ class ArcLines:
         """Puts a flow on the arcs of `graph`, the instance that `read` returned with these lines, back on the lines:
         `flow[i]` is the flow of arc i. Returns the units of each line. The lines of a pair share the flow of its arcs:
         in `min` each has its LOW, and the rest goes to the cheapest, so that the cost stays the same; in `max` the
-        first ones are filled; in `sp` the first of the shortest has all. Raises ValueError if the units of a pair are
-        not between the sums of its lower bounds and of its capacities."""
+        first ones are filled; in `sp` the first of the shortest has all. Raises ValueError for units out of bounds."""
         given = numbers_of(flow, "flow[{}]".format)
         if len(given) != len(graph):
             raise ValueError(f"the graph has {len(graph)} arcs, and the flow {len(given)} numbers")

@@ -16,27 +16,20 @@ from typing import Any, Optional, Union, cast
 from .answers import AnyDifference, Difference, Same
 from .columns import Own, column, zeros
 from .errors import DnormError, Endless, Memory, NoLibrary, Refused
-from .files import Text
+from .files import Text, enough_memory
 from .instances import CLASSES, AnyInstance, column_names
 from .limits import Lease
 from .program import page, place
 from .refusals import REFUSALS
 
-# The name of the library ends with the number of the interface that this module knows. setuptools, which builds it from
-# a source distribution, gives it the name of a module.
+# The name of the library ends with the number of the interface that is known here. setuptools names it as a module.
 ABI = 3
 NAME = f"libdnorm.so.{ABI}"
 NAMES = [NAME, *(f"libdnorm{it}" for it in EXTENSION_SUFFIXES)]
 # Where the library is, from here, but for that of a wheel, which has any of the names: in an archive; in a clone, which
 # has built one or has the released ones; below the prefix of `bin/install`; on Debian.
 MACHINE = platform.machine()
-PLACES = [
-    "../../../lib",
-    "../../../build",
-    f"../../../released/{MACHINE}",
-    "../../../../lib",
-    f"../../../{MACHINE}-linux-gnu",
-]
+PLACES = [f"../../../{it}" for it in ("lib", "build", f"released/{MACHINE}", "../lib", f"{MACHINE}-linux-gnu")]
 # Kinds by their numbers.
 KINDS = ["", "min", "max", "sp", "ss", "p2p", "co"]
 GRAPHS = ("min", "max", "sp")
@@ -45,8 +38,7 @@ WHAT = ["same", "kind", "nodes", "supply", "source", "sink", "pair", "items", "i
 OF_PAIR = {"sp": "length", "max": "capacity", "min": "cost"}
 # Some codes, and the place of a status that has a line.
 FINE, MEMORY, NOT_IN_GRAPH, AT_LINE = 0, 30, 35, 1
-# How many arcs, items or arc lines, and how many bytes, are copied at a time. Between two calls it is seen whether the
-# time is over.
+# How many arcs, items or arc lines, and how many bytes, are copied between two looks whether the time is over.
 ROOM, BYTES = 1 << 14, 1 << 16
 # A text of so many bytes has no end.
 ENDLESS = 1 << 40
@@ -58,23 +50,16 @@ def struct(**fields: Any) -> Any:
     return type("Struct", (ctypes.Structure,), {"_fields_": [*fields.items()]})
 
 
-# What C has of a reader, an instance or a text.
+# The structures of dnorm.h, which describes them: dnorm, dnorm_status, dnorm_summary, dnorm_count, dnorm_place,
+# dnorm_lines_given, dnorm_value, dnorm_difference and dnorm_fit.
 Handle = struct(work=ADDRESS, full=ctypes.c_bool)
-# The answer of a call.
 Status = struct(code=U8, place=U8, line=U64)
-# What an instance is, in numbers.
 Summary = struct(kind=U8, nodes=I64, lines=I64, pairs=U64, items=U64)
-# How many a call copied or counted.
 Count = struct(count=SIZE, code=U8)
-# A place between two arcs or items. That of zeros is before the first one.
 Place = struct(pairs=SIZE, within=U64, a=I64, b=I64, c=I64)
-# What a reader of arc lines took and gave.
 Given = struct(used=SIZE, count=SIZE, code=U8, line=U64)
-# A whole number of 128 bits, if it is known.
 Value = struct(known=ctypes.c_bool, high=I64, low=U64)
-# Where two instances first differ.
 First = struct(what=U8, at=I64, to=I64, index=U64, amount=I64, left=Value, right=Value)
-# Whether a companion fits a graph.
 Fit = struct(code=U8, node=I64)
 HANDLE, PLACE = ctypes.POINTER(Handle), ctypes.POINTER(Place)
 # The functions that are called: what each returns, and its arguments.
@@ -96,16 +81,6 @@ FUNCTIONS: dict[str, tuple[Any, ...]] = {
 }
 
 
-def called(path: str) -> Any:
-    """Returns the library in this file. Raises OSError or AttributeError for another file, and for a library of an
-    interface that lacks a function."""
-    found = ctypes.CDLL(path)
-    for name, (result, *arguments) in FUNCTIONS.items():
-        call = getattr(found, name)
-        call.restype, call.argtypes = result, arguments
-    return found
-
-
 def find_library() -> str:
     """Returns the path of the library by which texts are read: that of `$DNORM_LIBRARY`, or else the one that came with
     this package. Raises `NoLibrary` if there is none, or if it cannot be used."""
@@ -118,13 +93,17 @@ def library() -> Any:
 
 @functools.lru_cache(maxsize=None)
 def loaded(named: str) -> Any:
-    """Returns the library of this path, or if there is no path the one that came with this package. Raises NoLibrary if
-    there is none."""
+    """Returns the library of this path, or by default the one that came with this package. Raises NoLibrary."""
     error = NoLibrary(NAME, f"it is not there; {page()} says where to get it")
     places = [*((name, "") for name in NAMES), *((NAME, it) for it in PLACES)]
     for path in [os.path.abspath(named)] if named else filter(os.path.exists, starmap(place, places)):
         try:
-            return called(path)
+            found = ctypes.CDLL(path)
+            for name, (result, *arguments) in FUNCTIONS.items():
+                call = getattr(found, name)
+                call.restype, call.argtypes = result, arguments
+            return found
+        # It is another file, or of an interface that lacks a function.
         except (OSError, AttributeError) as reason:
             error = NoLibrary(path, str(reason))
     raise error
@@ -142,8 +121,7 @@ class Held:
         self._item_count = int(facts.items)
 
     def count(self, form: Optional[int]) -> int:
-        """Returns the number of canonical arcs in a form; or of items, which are those of a companion, and what a graph
-        has beside its arcs."""
+        """Returns the number of canonical arcs in a form; or of items, of a companion or beside the arcs of a graph."""
         is_arcs = form and self.kind in GRAPHS
         return self._counted(self._library.dnorm_arc_count(self._handle, form)) if is_arcs else self._item_count
 
@@ -174,7 +152,7 @@ class Held:
     def _counted(self, found: Any) -> int:
         """Returns the count of a call. Raises an error if it has another code than that of success."""
         if found.code != FINE:
-            raise error_of(Status(found.code), self._text)
+            raise error_of(self._text, found.code)
         return int(found.count)
 
     def canonical(self, form: int) -> Iterator[bytes]:
@@ -185,7 +163,7 @@ class Held:
             make = functools.partial(self._library.dnorm_canon, self._handle, form, ctypes.byref(text))
             status = self._text.limit.during(make, self._lease, lease)
             if status.code != FINE:
-                raise error_of(status, self._text)
+                raise error_of(self._text, status.code)
             at, room = 0, ctypes.create_string_buffer(BYTES)
             while more := self._library.dnorm_text(ctypes.byref(text), at, room, BYTES).count:
                 self._text.limit.left()
@@ -235,7 +213,7 @@ class Held:
         """Raises `Refused` if a companion does not fit this graph."""
         found, text = self._library.dnorm_fits(self._handle, companion._handle), companion._text
         if found.code != FINE:
-            raise refused(text, None, found.code, found.node if found.code == NOT_IN_GRAPH else None)
+            raise error_of(text, found.code, None, found.node if found.code == NOT_IN_GRAPH else None)
 
 
 def number_of(value: Any) -> Any:
@@ -273,27 +251,26 @@ class LinesRead(contextlib.ExitStack):
 
 @contextlib.contextmanager
 def held(text: Text, take: Optional[Callable[[bytes], object]] = None) -> Iterator[Held]:
-    """Reads a text, whose pieces `take` gets as well, and frees its instance at the end."""
+    """Reads a text, whose pieces `take` gets as well, and frees its instance at the end. Raises Memory if it lacks."""
     found, handle = library(), Handle()
     address = ctypes.byref(handle)
-    lease = Lease(lambda: found.dnorm_free(address))
-    try:
+    with enough_memory(text.limit.name), contextlib.ExitStack() as stack:
+        stack.callback(text.close)
+        lease = Lease(lambda: found.dnorm_free(address))
+        stack.callback(lease.end)
         status = found.dnorm_begin(address)
         if status.code == FINE:
             status = fed(found, address, text, take)
         if status.code == FINE:
             status = text.limit.during(functools.partial(found.dnorm_finish, address), lease)
         if status.code != FINE:
-            raise error_of(status, text)
+            raise error_of(text, status.code, status.line if status.place == AT_LINE else None)
         text.limit.left()
         yield Held(found, address, text, lease)
-    finally:
-        lease.end()
 
 
 def fed(found: Any, address: Any, text: Text, take: Optional[Callable[[bytes], object]]) -> Any:
-    """Feeds a text to a reader, to its end or to its first fault, and returns the status of the last piece. A
-    compressed file is read to its end, since only the end tells whether its lines are right."""
+    """Feeds a text to a reader up to its first fault, a compressed file to its end, which tells whether it is whole."""
     status, size = Status(), 0
     while (piece := text.next_piece()) is not None:
         text.limit.left()
@@ -310,12 +287,8 @@ def fed(found: Any, address: Any, text: Text, take: Optional[Callable[[bytes], o
     return status
 
 
-def error_of(status: Any, text: Text) -> DnormError:
-    if status.code == MEMORY:
+def error_of(text: Text, number: int, line: Optional[int] = None, node: Optional[int] = None) -> DnormError:
+    """Returns the error of a text that a code tells, with the cause of a refusal if that can be found."""
+    if number == MEMORY:
         return Memory(text.name)
-    return refused(text, status.line if status.place == AT_LINE else None, status.code)
-
-
-def refused(text: Text, line: Optional[int], number: int, node: Optional[int] = None) -> Refused:
-    """Returns a refusal of a text, with its cause if that can be found."""
     return Refused(text.name, line, number, REFUSALS[number][0], node, *(text.cause(line, number, node) or ()))

@@ -6,19 +6,17 @@ import select
 import threading
 import time
 from collections.abc import Callable, Iterator, Sequence
-from concurrent.futures import Future, wait
+from concurrent.futures import Future, ThreadPoolExecutor, wait
 from queue import Empty, SimpleQueue
-from typing import Any, BinaryIO, Generic, Optional, TypeVar, Union
+from typing import BinaryIO, Generic, Optional, TypeVar, Union
 
 from .errors import Memory, TimedOut
 
 Result = TypeVar("Result")
-Other = TypeVar("Other")
-Item = TypeVar("Item")
+Seconds = Optional[float]
 # The longest limit, some 30 years, which all calls of the system take; and the longest wait of one call of poll.
 LONGEST, WAIT = 10**9, 10**6
-# How many tasks begin before the result of the first one is taken, and the longest wait, in seconds: a signal that
-# comes just before a wait does not end it.
+# How many tasks begin before the first result is taken, and the longest wait: a signal just before does not end it.
 AHEAD, PAUSE = 1000, 0.1
 
 
@@ -32,33 +30,27 @@ class Lease:
         with self._lock:
             self._users += 1
 
-    def end(self) -> None:
+    def end(self, _: object = None) -> None:
         with self._lock:
             self._users -= 1
-            is_free = not self._users
-        if is_free:
-            self._free()
-
-
-def check_seconds(seconds: Any) -> None:
-    """Raises TypeError for what is no number of seconds, and ValueError for one that no clock reaches."""
-    is_number = isinstance(seconds, numbers.Real)
-    if not is_number:
-        raise TypeError(f"timeout is a number of seconds, and not {type(seconds).__name__}")
-    if not 0 <= seconds <= LONGEST:
-        raise ValueError(f"timeout is at least 0 and at most {LONGEST} seconds, and not {seconds}")
+            if not self._users:
+                self._free()
 
 
 class Limit:
     """So many seconds from now, or no limit. `name` is what the error of a call calls its file."""
 
-    def __init__(self, seconds: Optional[float], name: str) -> None:
-        if seconds is not None:
-            check_seconds(seconds)
+    def __init__(self, seconds: Seconds, name: str) -> None:
+        is_number = seconds is None or isinstance(seconds, numbers.Real)
+        if not is_number:
+            raise TypeError(f"timeout is a number of seconds, and not {type(seconds).__name__}")
+        # No clock reaches others.
+        if seconds is not None and not 0 <= seconds <= LONGEST:
+            raise ValueError(f"timeout is at least 0 and at most {LONGEST} seconds, and not {seconds}")
         self.seconds, self.name = seconds, name
         self._end = None if seconds is None else time.monotonic() + seconds
 
-    def left(self) -> Optional[float]:
+    def left(self) -> Seconds:
         """Returns the seconds that are left. Raises TimedOut if there are none."""
         if self._end is None or self.seconds is None:
             return None
@@ -68,13 +60,24 @@ class Limit:
         return left
 
     def during(self, call: Callable[[], Result], *leases: Lease) -> Result:
-        """Returns what a call returns that nothing can end, and that uses what is leased. If the time is over before,
-        raises TimedOut; the call then goes on in a thread, and what it uses stays until its end."""
+        """Returns what a call returns that nothing can end. After TimedOut it goes on, with what is leased to it."""
         left = self.left()
         if left is None:
             return call()
+        later: Future[Result] = Future()
+
+        def run() -> None:
+            try:
+                later.set_result(call())
+            except BaseException as error:
+                later.set_exception(error)
+
+        for it in leases:
+            it.take()
+            later.add_done_callback(it.end)
         try:
-            later = begun(call, *leases)
+            with heeding_signals():
+                threading.Thread(target=run, daemon=True).start()
         except RuntimeError as error:
             raise Memory(self.name) from error
         with heeding_signals():
@@ -95,51 +98,24 @@ def heeding_signals() -> Iterator[None]:
         raise
 
 
-def begun(call: Callable[[], Result], *leases: Lease) -> Future[Result]:
-    """Begins a call in a thread, which nothing waits for at the end, and keeps what it uses until then. Raises
-    RuntimeError if the system lets no more threads start."""
-    found: Future[Result] = Future()
-
-    def used() -> Result:
+def at_once(one: Callable[[], Result], other: Callable[[], Result], end: Callable[[], None]) -> tuple[Result, Result]:
+    """Returns what two calls return, the second one in a thread, which `end` ends soon if the first one fails."""
+    with heeding_signals(), ThreadPoolExecutor(1) as pool:
         try:
-            return call()
-        finally:
-            for it in leases:
-                it.end()
-
-    def run() -> None:
+            with heeding_signals():
+                later = pool.submit(other)
+        except RuntimeError:
+            return one(), other()
         try:
-            found.set_result(used())
-        except BaseException as error:
-            found.set_exception(error)
-
-    for it in leases:
-        it.take()
-    with heeding_signals():
-        threading.Thread(target=run, daemon=True).start()
-    return found
-
-
-def at_once(one: Callable[[], Result], other: Callable[[], Other], end: Callable[[], None]) -> tuple[Result, Other]:
-    """Returns what two calls return, the second of which a thread makes meanwhile. Raises what the first one raises, if
-    it does, and else what the second one does. `end` makes the second one end soon."""
-    try:
-        later = begun(other)
-    except RuntimeError:
-        return one(), other()
-    try:
-        with heeding_signals():
             return one(), later.result()
-    except BaseException:
-        end()
-        # What the thread reads must not be closed before it ends.
-        wait([later])
-        raise
+        except BaseException:
+            # What the thread reads must not be closed before it ends, for which the pool waits.
+            end()
+            raise
 
 
 class Timed:
-    """A file, pipe or device that is read within a limit. `read_bytes` counts those of all files, about: it has no
-    lock."""
+    """A file, pipe or device that is read within a limit. `read_bytes`, without a lock, counts those of all files."""
 
     read_bytes = 0
 
@@ -161,30 +137,16 @@ class Timed:
         return data
 
 
-class Workers(Generic[Item, Result]):
-    """Threads that run a task on each of these items, at most `jobs` of them. Nothing waits for their end, since a
-    thread may wait for a file without end. No task returns an exception."""
+class Workers(Generic[Result]):
+    """Threads, at most `jobs`, that run a task on items. Nothing waits for their end. No task returns an exception."""
 
-    def __init__(self, task: Callable[[Item], Result], items: Sequence[Item], jobs: int) -> None:
+    def __init__(self, task: Callable[[str], Result], items: Sequence[str], jobs: int) -> None:
         self._task, self._items, self._jobs = task, items, jobs
         self._begun = self._threads = 0
         self._is_stopped = False
         self._wanted: SimpleQueue[int] = SimpleQueue()
         self._came: SimpleQueue[tuple[int, Union[Result, BaseException]]] = SimpleQueue()
         self._done: dict[int, Union[Result, BaseException]] = {}
-
-    def _begin(self) -> None:
-        """Begins the next item: in another thread while there may be more of them. Where the system lets no more start,
-        those that there are do all."""
-        self._wanted.put(self._begun)
-        self._begun += 1
-        if self._threads < self._jobs:
-            try:
-                with heeding_signals():
-                    threading.Thread(target=self._work, daemon=True).start()
-                self._threads += 1
-            except (RuntimeError, MemoryError):
-                self._jobs = self._threads
 
     def _work(self) -> None:
         while not self._is_stopped:
@@ -197,10 +159,18 @@ class Workers(Generic[Item, Result]):
             self._came.put((at, error))
 
     def result(self, at: int, idle: Callable[[], None] = lambda: None) -> Result:
-        """Returns the result of this item, or raises what its task has raised. Results are asked for in the order of
-        the items. `idle` is called again and again during a long wait."""
+        """Returns the result of this item, the next one, or raises what its task raised. A long wait calls `idle`."""
         while self._begun < min(at + AHEAD, len(self._items)):
-            self._begin()
+            self._wanted.put(self._begun)
+            self._begun += 1
+            if self._threads < self._jobs:
+                # If the system lets no more threads start, those that there are do all.
+                try:
+                    with heeding_signals():
+                        threading.Thread(target=self._work, daemon=True).start()
+                    self._threads += 1
+                except (RuntimeError, MemoryError):
+                    self._jobs = self._threads
         while at not in self._done:
             if not self._threads:
                 self._do(self._wanted.get())

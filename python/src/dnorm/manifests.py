@@ -1,5 +1,4 @@
-"""Manifests: the canonical checksums of files, one on a line. With the marks of the files, a manifest also says which
-of them need not be read again."""
+"""Manifests: the canonical checksums of files, one on a line, with marks that show which files have not changed."""
 
 import contextlib
 import hashlib
@@ -27,22 +26,13 @@ EARLIER = re.compile(rf"# file -?[0-9]+ -?[0-9]+ ({'|'.join(dict.fromkeys(KINDS.
 ENTRY = re.compile(r"(\\?)([0-9a-f]{64})  (.+)", re.S)
 # What follows the name of a file, behind a tab: its mark, and a sum of the line up to there.
 MARKED = re.compile(r"(.*)\t# ((?:-?[0-9]+ ){5})([0-9a-f]{16})", re.S)
+# What differs once a file is written or another one has its name: its size; in nanoseconds when it was written, and
+# when it was changed at all, which no program sets back as `touch -d` and `cp -p` do; its number and its device.
+Mark = tuple[int, ...]
 # How names are written that lines cannot have.
 ESCAPES = {"\\": r"\\", "\n": r"\n", "\r": r"\r", "\t": r"\t"}
 # A file that was written so few nanoseconds before may be written again without another time.
 FRESH = 2_000_000_000
-
-
-class Mark(NamedTuple):
-    """What differs once a file is written or another one has its name: its size; when it was written, and when it was
-    last changed at all, in nanoseconds; and its number and its device. The time of change is the system's: no program
-    sets it back, as `touch -d` and `cp -p` do with the time of writing."""
-
-    size: int
-    written: int
-    changed: int
-    number: int
-    device: int
 
 
 class Entry(NamedTuple):
@@ -57,14 +47,13 @@ class Entry(NamedTuple):
 def mark_of(name: str) -> Mark:
     """Returns the mark of a file, or of the one that a link leads to. Raises OSError if there is no such file."""
     it = os.stat(name)
-    return Mark(it.st_size, it.st_mtime_ns, it.st_ctime_ns, it.st_ino, it.st_dev)
+    return it.st_size, it.st_mtime_ns, it.st_ctime_ns, it.st_ino, it.st_dev
 
 
 def renewed(
     name: str, form: Form, read: Callable[[str], Record], known: Optional[Entry]
 ) -> tuple[Record, Optional[Mark]]:
-    """Returns the record of a file, which `read` reads unless the known entry has its mark and this form; and its mark,
-    if the file was not written meanwhile, or just before."""
+    """Returns the record of a file, read unless its mark and form are known; and its mark, if it is sure to change."""
     try:
         before = mark_of(name)
     except OSError as error:
@@ -75,26 +64,16 @@ def renewed(
     with contextlib.suppress(OSError):
         after = mark_of(name)
     # A time before 1970 or after now is none at which the file was written.
-    is_sure = 0 <= min(before.written, before.changed) and max(before[1:3]) < time.time_ns() - FRESH
+    is_sure = 0 <= min(before[1:3]) and max(before[1:3]) < time.time_ns() - FRESH
     return record, before if is_sure and after == before else None
 
 
 def line_with(name: str, before: str = "", after: str = "", more: str = "", *, has_tabs: bool = True) -> str:
-    """Returns a line with the name of a file, and at its end with more that has names. As in a line of sha256sum, a
-    backslash, LF or CR in a name is written as two characters, and a backslash begins the line then; so is a tab, if
-    the line is to have none."""
+    """Returns a line with the name of a file, and at its end more with names. As in a line of sha256sum, a backslash,
+    LF or CR in a name, or a tab if the line is to have none, is two characters, and a backslash begins the line."""
     table = str.maketrans({it: to for it, to in ESCAPES.items() if it != "\t" or not has_tabs})
     plain, others = name.translate(table), more.translate(table)
     return ("\\" if (plain, others) != (name, more) else "") + before + plain + after + others + "\n"
-
-
-def name_in(mark: str, plain: str) -> Optional[str]:
-    """Returns the name that `line_with` has written into a line, or None if it writes no name so. `mark` is the
-    backslash that begins the line, if one does."""
-    if mark and not re.fullmatch(r"(?:[^\\]|\\[\\nrt])*", plain):
-        return None
-    meant = {written: it for it, written in ESCAPES.items()}
-    return re.sub(r"\\.", lambda it: meant[it[0]], plain) if mark else plain
 
 
 def sum_of(form: int, line: str) -> str:
@@ -117,8 +96,7 @@ def manifest_text(entries: Iterable[Entry], form: int, has_marks: bool = False) 
 
 def entries_of(text: str) -> tuple[dict[str, Entry], bool]:
     """Returns the entries of a manifest by the names of the files, and whether it says its form. Raises ValueError for
-    a line that no manifest can have, for a line with a mark that is not as it was written, for a file that is listed
-    twice, and for a manifest that is cut."""
+    a line that no manifest has, or that was edited behind its tab; a file that is listed twice; and a cut manifest."""
     *lines, rest = text.split("\n")
     if rest:
         raise ValueError("its last line has no end: it is cut")
@@ -150,12 +128,14 @@ def entry_on(line: str, at: int, form: Form, is_ours: bool) -> Entry:
     """Returns the entry on a line of a manifest of this form, which this version wrote, or an earlier one."""
     marked = MARKED.fullmatch(line)
     entry = ENTRY.fullmatch(marked[1] if marked else line)
-    name = name_in(entry[1], entry[3]) if entry else None
-    if not entry or not name:
+    # No name is written with other signs behind a backslash.
+    if not entry or entry[1] and not re.fullmatch(r"(?:[^\\]|\\[\\nrt])*", entry[3]):
         raise ValueError(f"no manifest has the line {line!r}")
     if marked and not (is_ours and sum_of(form, line[: -len(marked[3])]) == marked[3]):
         raise ValueError(f"line {at} is not as it was written; without what follows its tab, the file is read")
-    return Entry(name, entry[2], form, Mark(*map(int, marked[2].split())) if marked else None)
+    meant = {written: it for it, written in ESCAPES.items()}
+    name = re.sub(r"\\.", lambda it: meant[it[0]], entry[3]) if entry[1] else entry[3]
+    return Entry(name, entry[2], form, tuple(map(int, marked[2].split())) if marked else None)
 
 
 @dataclass(frozen=True, repr=False)
@@ -191,8 +171,7 @@ class Changes:
 
 
 def read_manifest(file: File) -> Manifest:
-    """Reads a manifest that `dnorm-files manifest` has written, which may be compressed. Raises `Read` for a text that
-    is none, as one that is cut."""
+    """Reads a manifest that `dnorm-files` wrote, also compressed. Raises `Read` for a text that is none, or is cut."""
     entries, has_form = manifest_in(file)
     if not entries and not has_form:
         raise Read(name_of(file), "it lists no file")
@@ -202,10 +181,8 @@ def read_manifest(file: File) -> Manifest:
 
 def manifest_in(file: File) -> tuple[dict[str, Entry], bool]:
     """Returns the entries of a manifest, and whether it says its form."""
-    with failing(Read, name_of(file)), contextlib.ExitStack() as stack:
-        text = Text(file, stack, Limit(None, name_of(file)))
-        found = entries_of(os.fsdecode(b"".join(iter(text.next_piece, None))))
-    return found
+    with failing(Read, name_of(file)), contextlib.closing(Text(file, Limit(None, name_of(file)))) as text:
+        return entries_of(os.fsdecode(b"".join(iter(text.next_piece, None))))
 
 
 def manifest_changes(old: Manifest, new: Manifest) -> Changes:

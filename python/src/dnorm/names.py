@@ -1,5 +1,4 @@
-"""What the names of files say: the kinds of DIMACS texts, and compressions, by their endings in small letters or
-capitals."""
+"""What the names of files say: the kinds of DIMACS texts, and compressions, by their endings in any case."""
 
 import os
 import re
@@ -7,6 +6,7 @@ from collections.abc import Iterable, Sequence
 from fnmatch import fnmatchcase
 from typing import Optional
 
+Names = Sequence[str]
 # The kinds of texts by the ends of their names.
 KINDS = {".gr": "sp", ".sp": "sp", ".min": "min", ".max": "max", ".ss": "ss", ".p2p": "p2p", ".co": "co"}
 COMPANIONS = (".ss", ".p2p", ".co")
@@ -33,7 +33,7 @@ def parts_of(name: str) -> tuple[str, str]:
     return plain, ending.lower()
 
 
-def is_text(name: str, endings: Sequence[str] = ENDINGS) -> bool:
+def is_text(name: str, endings: Names = ENDINGS) -> bool:
     """Whether a name ends like that of a text, which may be compressed."""
     return name.lower().endswith(tuple(f"{it.lower()}{more}" for it in endings for more in ("", *COMPRESSIONS)))
 
@@ -53,9 +53,8 @@ def unknown_compression(name: str) -> str:
     return "" if packed in ("", *COMPRESSIONS) else f"{OTHERS.get(packed, packed)} is not supported"
 
 
-def unread_text(name: str, endings: Sequence[str] = ENDINGS) -> str:
-    """Returns why the text that a name stands for is not read: what follows its ending is a compression that is not
-    supported, or several. Returns nothing for any other name."""
+def unread_text(name: str, endings: Names = ENDINGS) -> str:
+    """Returns why the text of this name is not read: several compressions, or another one, follow its ending; or ''."""
     plain = packed_of(os.path.basename(name))[0].lower()
     # As .svgz is the ending of a compressed .svg.
     if plain.endswith(tuple(f"{it.lower()}z" for it in endings)):
@@ -64,8 +63,7 @@ def unread_text(name: str, endings: Sequence[str] = ENDINGS) -> str:
 
 
 def stem_of(name: str) -> str:
-    """Returns the name that a graph and its companions share, without their endings. As in the Ninth Challenge, a graph
-    of distances and one of travel times share those of USA-road-d.NY and USA-road-t.NY."""
+    """Returns the name that a graph and its companions share, as USA-road-d.NY and USA-road-t.NY do."""
     return re.sub(r"-[dt](?=(\.[^/.]*)?$)", "-", parts_of(name)[0])
 
 

@@ -8,6 +8,8 @@ from .columns import numbers_of
 from .instances import Graph, Max, Min, Sp, class_of, from_arrays, whole
 
 AnyGraph = TypeVar("AnyGraph", bound=Graph)
+Node = Optional[int]
+Edges = list[tuple[Any, Any, dict[str, Any]]]
 # The name of an attribute of edges, a function of tail, head and attributes, or None, as networkx takes them.
 Weight = Union[str, Callable[[Any, Any, dict[str, Any]], Any], None]
 
@@ -19,7 +21,7 @@ def from_networkx(kind: Literal["sp"], graph: Any, *, weight: Weight = ...) -> S
 
 @overload
 def from_networkx(
-    kind: Literal["max"], graph: Any, *, capacity: str = ..., source: Optional[int] = ..., sink: Optional[int] = ...
+    kind: Literal["max"], graph: Any, *, capacity: str = ..., source: Node = ..., sink: Node = ...
 ) -> Max:
     ...
 
@@ -40,8 +42,8 @@ def from_networkx(
     capacity: str = ...,
     low: str = ...,
     demand: str = ...,
-    source: Optional[int] = ...,
-    sink: Optional[int] = ...,
+    source: Node = ...,
+    sink: Node = ...,
 ) -> AnyGraph:
     ...
 
@@ -54,8 +56,8 @@ def from_networkx(
     capacity: str = "capacity",
     low: str = "low",
     demand: str = "demand",
-    source: Optional[int] = None,
-    sink: Optional[int] = None,
+    source: Node = None,
+    sink: Node = None,
 ) -> Any:
     """Returns the `Sp`, `Max` or `Min` that a directed graph of networkx is, with the attributes that `to_networkx`
     writes. The nodes are the numbers from 1 on: `networkx.convert_node_labels_to_integers(graph, first_label=1)` makes
@@ -67,9 +69,8 @@ def from_networkx(
     attributes. As in networkx, `weight` may also be a function of an edge's ends and attributes. With `weight=None` all
     lengths are 1, or all costs 0.
 
-    Raises ValueError for other nodes, undirected edges, edges without a weight, and edges without a capacity, whose
-    flow has no bound; TypeError for numbers that are not whole, and for terminals of another class; and OverflowError
-    for numbers that do not fit into 64 bits."""
+    Raises ValueError for other nodes, undirected edges, and edges without a weight, or without a capacity, which have
+    no bound; TypeError for numbers that are not whole, and terminals of another class; OverflowError above 64 bits."""
     made = class_of(kind)
     if made not in (Sp, Max, Min):
         raise TypeError(f"from_networkx makes Sp, Max and Min, and not {made.__name__}")
@@ -109,9 +110,6 @@ def check_terminals(made: type[Graph], ends: dict[str, Optional[int]]) -> None:
         raise TypeError(f"{made.__name__} takes no {' and no '.join(given)}")
 
 
-Edges = list[tuple[Any, Any, dict[str, Any]]]
-
-
 def of_edges(what: str, edges: Edges, numbers: list[Any]) -> "array[int]":
     """Returns what edges have, a number each. Errors name the edge, and call its number by this name."""
     name = "the {} of the edge from {} to {} is {!r}".format
@@ -146,14 +144,13 @@ def from_scipy(kind: Union[Literal["max"], type[Max]], matrix: Any, *, source: i
     ...
 
 
-def from_scipy(kind: Any, matrix: Any, *, source: Optional[int] = None, sink: Optional[int] = None) -> Any:
+def from_scipy(kind: Any, matrix: Any, *, source: Node = None, sink: Node = None) -> Any:
     """Returns the `Sp` or `Max` that a sparse matrix of scipy is: the entry in row i and column j is the length or the
     capacity of the arc from node i + 1 to node j + 1, also if it is stored and 0. `source` and `sink` are nodes, as in
     `from_arrays`: they are greater by 1 than the rows that `scipy.sparse.csgraph.maximum_flow` takes.
 
     Raises TypeError for what is no sparse matrix, for numbers that are not whole, and for terminals of `Sp`; ValueError
-    for a matrix that is not square, or has two entries at one place; and OverflowError for numbers that do not fit into
-    64 bits."""
+    for a matrix that is not square, or has two entries at one place; and OverflowError for numbers above 64 bits."""
     made = class_of(kind)
     if made not in (Sp, Max):
         raise TypeError(f"from_scipy makes Sp and Max, and not {made.__name__}")

@@ -15,7 +15,7 @@ from .columns import column, numpy_here
 from .files import File, enough_memory, name_of
 from .instances import AnyInstance, Graph, Instance, Min, whole
 from .library import GRAPHS
-from .limits import Limit
+from .limits import Limit, Seconds
 
 # The columns of each kind: those of the key, and those of the values with their names.
 KEYS = {"min": ("tails", "heads"), "max": ("tails", "heads"), "sp": ("tails", "heads"), "co": ("ids",)}
@@ -27,7 +27,6 @@ VALUES = {
 MOST = 3_000_000_000
 # How many pairs are looked at between two looks at the time.
 STEP = 10_000
-
 Key = tuple[int, ...]
 # The values of the arcs of a pair. There are none if the text has no such pair.
 Arcs = tuple[tuple[int, ...], ...]
@@ -38,8 +37,7 @@ Curve = tuple[tuple[int, int], ...]
 @dataclass(frozen=True)
 class PairDifference:
     """A pair whose arcs differ. `key` is its tail and head; or the ID of a point, or the place of an item. `left` and
-    `right` have the values of each arc: LENGTH, CAP, or LOW, CAP and COST as of form 2. They are empty where a text has
-    no such pair."""
+    `right` have LENGTH, CAP, or LOW, CAP and COST in form 2 of each arc, and are empty without such a pair."""
 
     key: Key
     left: Arcs
@@ -98,9 +96,8 @@ def arcs_around(it: Graph, node: int) -> dict[Key, Arcs]:
 
 
 def paired(left: Instance, right: Instance, limit: Optional[int], time: Limit) -> dict[str, Any]:
-    """Returns how the pairs of two instances of one kind differ, as attributes of `Differences`, with at most `limit`
-    of the differing pairs. The instances are those of canonical texts. With numpy, pairs that are the same are left out
-    first, which takes less time."""
+    """Returns how the pairs of two canonical instances of one kind differ, as attributes of `Differences`, with at most
+    `limit` of the differing pairs. With numpy, pairs that are the same are left out first, which takes less time."""
     time.left()
     ours, theirs, same = rows_of(left), rows_of(right), 0
     np = numpy_here()
@@ -189,8 +186,7 @@ class Differences:
     flows differ. `fields` counts the different pairs by the fields that differ, as `low cap`, or `arcs` if the numbers
     of arcs do. `values` has the names `nodes`, `source` and `sink` with both values, where these differ. `pairs` has
     the first differing pairs: those that both texts have, and then the others. For companions, points or items are
-    counted instead of pairs. `left` and `right` are the instances, in form 2. Texts of different kinds have nothing
-    else but `first`."""
+    counted instead. `left` and `right` are the instances, in form 2. Texts of two kinds have only these and `first`."""
 
     first: Union[Same, AnyDifference]
     left: AnyInstance
@@ -221,11 +217,8 @@ class Differences:
         return table(self, ("key", "left", "right"), ((it.key, it.left, it.right) for it in self.pairs))
 
 
-def differences(
-    left: File, right: File, limit: Optional[int] = None, *, timeout: Optional[float] = None
-) -> Differences:
-    """Returns all differences between two texts, and the arcs of the first differing pairs, at most `limit` of them. It
-    keeps both instances in memory."""
+def differences(left: File, right: File, limit: Optional[int] = None, *, timeout: Seconds = None) -> Differences:
+    """Returns all differences between two texts, with both instances, and the arcs of the first `limit` pairs."""
     if limit is not None and whole("limit", limit) < 0:
         raise ValueError(f"limit is at least 0, and not {limit}")
     time = Limit(timeout, name_of(left))

@@ -1,28 +1,42 @@
-"""Where the program, pages and other files are that commands need, and how many processors there are."""
+"""Where the program, pages and other files are, what the program tells, and how many processors there are."""
 
 import os
+import re
 import shutil
 from collections.abc import Sequence
+from typing import Optional
 
-from .errors import NoProgram
+from .errors import DnormError, Endless, Memory, NoProgram, Read, Refused, Write
+from .refusals import REFUSALS
 
-# Where the page on the commands and calls is, from here: in a wheel, in a clone or an archive, and where `bin/install`
-# and Debian put it; where the program is, in a clone or an archive, and where pip and these put it; and where the files
-# of pages of HTML are.
+# Where the page on the commands and calls is, from here, in a wheel, in a clone or an archive, and where `bin/install`
+# and Debian put it; where the program is in these or by pip; and where the files of pages of HTML are.
 PAGES = ["", "../../../docs", "../../../doc/dnorm/docs", "../../../../share/doc/dnorm/docs"]
 PROGRAMS = ["../../../bin", "../../..", "../../../../bin"]
 WEB = ["", "../../../web", "../../web", "../../../../share/dnorm/web"]
+# The line on standard error of a run that failed, by `dnorm help`. A name may have LF.
+LINE = re.compile(r"(?as)(.*):(?:(\d+|end): (?=[12]?\d [A-Za-z]+\Z)| (?=3[0-6] ))(\d+) ([A-Za-z]+)(?: (\d+))?")
+FAILURES: "dict[str, type[DnormError]]" = {it.__name__: it for it in (Memory, Read, Endless, Write)}
+
+
+def error_on(line: str) -> Optional[DnormError]:
+    """Returns the error that a line of the program tells, without its LF, or None for any other line."""
+    found = LINE.fullmatch(line)
+    if not found or REFUSALS.get(int(found[3]), ("",))[0] != found[4]:
+        return None
+    name, place, number, word, node = found.groups()
+    if word in FAILURES:
+        return FAILURES[word](name)
+    return Refused(name, None if place in (None, "end") else int(place), int(number), word, int(node) if node else None)
 
 
 def find_program() -> str:
-    """Returns the path of the program dnorm: the one that came with this package, or else the first one on `PATH`.
-    Raises `NoProgram` if it is not there."""
+    """Returns the path of the program dnorm: the one that came with this package, or else the first one on `PATH`."""
     return placed("dnorm", PROGRAMS) or on_path("dnorm")
 
 
 def on_path(name: str) -> str:
-    """Returns the path of a command that is on `PATH`. The folders of `PATH` that depend on the current one are passed
-    over, since that may have files of any name. Raises `NoProgram` if it is not there."""
+    """Returns the path of a command on `PATH`, but for folders that depend on the current one. Raises `NoProgram`."""
     folders = filter(os.path.isabs, os.environ.get("PATH", os.defpath).split(os.pathsep))
     found = shutil.which(name, path=os.pathsep.join(folders) or os.devnull)
     if not found:

@@ -6,8 +6,8 @@ import json
 import os
 import time
 from collections import defaultdict
-from collections.abc import Iterable, Iterator, Sequence
-from dataclasses import dataclass
+from collections.abc import Iterable, Mapping, Sequence
+from dataclasses import dataclass, field
 from operator import mul
 from typing import Any, Literal, NamedTuple, Optional, Union
 
@@ -15,10 +15,10 @@ from .answers import Form
 from .calls import Sum, forms_of
 from .columns import Column, least_and_greatest, numpy_here
 from .errors import DnormError, Read, Refused
-from .files import Bounds, Copied, Text, enough_memory, reason_of
+from .files import Bounds, Copied, Text, reason_of
 from .instances import AnyInstance, Co, Graph, Min
 from .library import GRAPHS, Held, held
-from .limits import Limit
+from .limits import Limit, Seconds
 from .names import COMPANIONS, KINDS, parts_of, stem_of
 from .pairs import VALUES
 
@@ -32,8 +32,7 @@ Tells = Literal["kind", "checksum", "whole", "contents"]
 
 
 class Range(NamedTuple):
-    """The least and the greatest number of a field, and how many bits hold all of them without their signs: 31, 32, 53
-    or 64."""
+    """The least and the greatest number of a field, and whether 31, 32, 53 or 64 bits hold them without signs."""
 
     least: int
     greatest: int
@@ -141,8 +140,7 @@ def counts_of(records: Iterable[Record]) -> dict[str, int]:
 
 
 class Partners:
-    """The graphs and the companions in the folders of files, by their names without endings: roads.ss, roads.p2p and
-    roads.co belong to roads.gr."""
+    """The graphs and the companions beside files, by their names without endings: roads.co belongs to roads.gr."""
 
     def __init__(self, names: Iterable[str]) -> None:
         self.graphs, self.companions = defaultdict[str, list[str]](list), defaultdict[str, list[str]](list)
@@ -167,24 +165,25 @@ class Partners:
 
 @dataclass(frozen=True)
 class Reading:
-    """How files are read. Checksums and sizes are those of the canonical text in a `form`. A record tells the kind
-    alone, or the checksum, too; or it is whole, or has contents besides. With partners, companions are checked beside
-    their graphs. Files that nobody named are opened within bounds. If it is strict, a file with a remark has an error,
-    and so has one that takes more than `timeout` seconds."""
+    """How files are read: for checksums and sizes of the canonical text in a `form`; companions beside their graphs, if
+    there are `partners`; and files that nobody named within `bounds`. A remark if it `is_strict`, taking more than
+    `timeout` seconds, and what `files` know of a name are errors."""
 
     form: Form = 1
     partners: Optional[Partners] = None
     is_strict: bool = False
     tells: Tells = "whole"
-    timeout: Optional[float] = None
+    timeout: Seconds = None
     bounds: Optional[Bounds] = None
+    files: Mapping[str, Optional[DnormError]] = field(default_factory=dict)
 
     def record(self, name: str) -> Record:
         """Reads a file, and returns its record, also if that fails."""
-        start = time.monotonic()
+        start, known = time.monotonic(), self.files.get(name)
+        if known:
+            return Record(name, error=known)
         try:
-            with enough_memory(name):
-                found = self._read(name, self.partners.graphs_of(name) if self.partners else None)
+            found = self._read(name, self.partners.graphs_of(name) if self.partners else None)
             expected = KINDS.get(parts_of(name)[1], found.kind)
             found = found if expected == found.kind else found._replace(named=expected)
             if self.is_strict and found.remarks:
@@ -198,10 +197,9 @@ class Reading:
 
     def _read(self, name: str, graphs: Optional[Sequence[str]]) -> Record:
         limit = Limit(self.timeout, name)
-        with contextlib.ExitStack() as stack:
-            own, is_whole = Sum(), self.tells in ("whole", "contents")
-            text = Text(Copied() if name == "-" else name, stack, limit, self.bounds)
-            it = stack.enter_context(held(text, own.take) if is_whole else held(text))
+        own, is_whole = Sum(), self.tells in ("whole", "contents")
+        text = Text(Copied() if name == "-" else name, limit, self.bounds)
+        with held(text, own.take if is_whole else None) as it:
             told, checksum = dict[str, Any](), functools.cache(it.checksum)
             if self.tells != "kind":
                 told["checksum"] = checksum(self.form)
@@ -214,17 +212,15 @@ class Reading:
                 told["contents"] = contents_of(it.instance(self.form))
             if graphs is not None:
                 told["graphs"], told["not_accepted"] = self._fitting(graphs, it, limit)
-            found = Record(name, it.kind, **told)
-        return found
+            return Record(name, it.kind, **told)
 
     def _fitting(self, graphs: Iterable[str], it: Held, limit: Limit) -> tuple[tuple[str, ...], tuple[str, ...]]:
-        """Returns which graphs a companion fits, and which are refused or cannot be read. Raises Refused if the
-        companion, the file of the limit, does not fit one."""
+        """Returns which graphs the limit's file fits, and which are not accepted. Raises Refused if it does not fit."""
         fits, others = [], []
         for graph in graphs:
             try:
-                with contextlib.ExitStack() as stack:
-                    stack.enter_context(held(Text(graph, stack, limit, self.bounds))).check_fit(it)
+                with held(Text(graph, limit, self.bounds)) as found:
+                    found.check_fit(it)
                 fits.append(graph)
             except (Refused, Read) as error:
                 if error.name == limit.name:
@@ -258,14 +254,12 @@ def contents_of(it: AnyInstance) -> Contents:
     columns.update((field, getattr(it, column)) for field, column in VALUES[it.kind].items())
     capacity = sum(columns["cap"].tolist()) if "cap" in columns else None
     without = without_arcs(it) if isinstance(it, Graph) else None
-    return Contents(without, capacity, costly, supply, demand, dict(ranges(columns)))
+    ranges = {field: range_of(numbers) for field, numbers in columns.items() if len(numbers)}
+    return Contents(without, capacity, costly, supply, demand, ranges)
 
 
-def ranges(columns: dict[str, Union[Column, list[int]]]) -> Iterator[tuple[str, Range]]:
-    """Yields the range of each field that has a number."""
-    for field, numbers in columns.items():
-        if len(numbers):
-            least, greatest = least_and_greatest(numbers)
-            bits = max(least.bit_length(), greatest.bit_length())
-            # As many bits as readers and solvers have for a number without its sign.
-            yield field, Range(least, greatest, next((it for it in (31, 32, 53) if bits <= it), 64))
+def range_of(numbers: Union[Column, list[int]]) -> Range:
+    least, greatest = least_and_greatest(numbers)
+    bits = max(least.bit_length(), greatest.bit_length())
+    # As many bits as readers and solvers have for a number without its sign.
+    return Range(least, greatest, next((it for it in (31, 32, 53) if bits <= it), 64))

@@ -4,7 +4,6 @@ import contextlib
 import difflib
 import functools
 import os
-import re
 import signal
 import subprocess
 import sys
@@ -13,9 +12,9 @@ from typing import Optional
 
 from ..causes import Opener, cause_of, quoted
 from ..console import for_terminal, is_open
-from ..errors import DnormError, NoProgram, Refused, Write
+from ..errors import DnormError, NoProgram, Read, Refused, Write
 from ..files import Copied, of_stream, reason_of
-from ..program import find_program
+from ..program import LINE, error_on, find_program
 from ..refusals import REFUSALS
 
 USAGE = """\
@@ -34,9 +33,6 @@ that the refusals name, so it runs in the folder of dnorm.
 The status is that of dnorm, as its lines tell it; of several runs, the greatest one; 3 if there are no words and
 standard input is a terminal.
 """
-# A name may have LF.
-REFUSED_LINE = re.compile(r"(?P<name>.*):(?P<place>[0-9]+|end): (?P<number>[12]?[0-9]) (?P<word>[A-Za-z]+)", re.S)
-OTHER_LINE = re.compile(r"(?P<name>.*): (?P<number>3[0-6]) (?P<word>[A-Za-z]+)(?: (?P<node>[0-9]+))?", re.S)
 WRONG = ("dnorm: bad command line", "dnorm: standard input named twice")
 # The option of each command, or none, with the number of its files, and the values that options take.
 COMMANDS = {"canon": ("--form", 1), "check": ("--with", 1), "compare": ("", 2), "show": ("", 1), "help": ("", 0)}
@@ -74,8 +70,7 @@ def say(fd: int, told: str, causes: Iterable[str]) -> None:
 
 
 def explain_run(words: Sequence[str]) -> int:
-    """Runs the program with these words, and explains on standard error what it prints there. A copy of standard input
-    is kept if the program reads it."""
+    """Runs the program with these words, and explains what it prints on standard error. Copies what it reads of -."""
     program, copy = find_program(), Copied() if "-" in words and is_open(0) else None
     try:
         process = subprocess.Popen([program, *words], stdin=subprocess.PIPE if copy else None, stderr=subprocess.PIPE)
@@ -91,7 +86,7 @@ def explain_run(words: Sequence[str]) -> int:
     _, said = process.communicate()
     signal.signal(signal.SIGPIPE, signal.SIG_DFL)
     whole = os.fsdecode(said).removesuffix("\n")
-    found = REFUSED_LINE.fullmatch(whole) or OTHER_LINE.fullmatch(whole)
+    found = LINE.fullmatch(whole)
     # A name may have LF, and then all is one line.
     for told in [whole] if found and os.path.lexists(found[1]) else whole.splitlines():
         say(2, told, wrong_words(words) if told == WRONG[0] else causes_of(told, copy))
@@ -100,39 +95,32 @@ def explain_run(words: Sequence[str]) -> int:
 
 def status_of(told: str) -> int:
     """Returns the status of a run that prints this line."""
-    other = OTHER_LINE.fullmatch(told)
+    found = LINE.fullmatch(told)
     if told in WRONG:
         return 3
     if told.startswith("differ "):
         return 1
-    if REFUSED_LINE.fullmatch(told):
-        return 2
-    return (4 if int(other[2]) < 34 else 2) if other else 0
+    return (4 if 30 <= int(found[3]) < 34 else 2) if found else 0
 
 
 def causes_of(told: str, copy: Optional[Copied] = None) -> Iterator[str]:
     """Yields what shows the cause of what a line tells, of standard input by its copy."""
-    refused, other = REFUSED_LINE.fullmatch(told), OTHER_LINE.fullmatch(told)
-    found = refused or other
-    if not found or REFUSALS.get(int(found["number"]), ("",))[0] != found["word"]:
-        return
-    name, number = found["name"], int(found["number"])
-    if other and 30 <= number < 34:
-        yield REFUSALS[number][1]
-        if number == 31 and name != "-":
+    error = error_on(told)
+    name = error.name if error else ""
+    if isinstance(error, Refused):
+        text: Optional[Opener] = copy.again if copy and name == "-" else None
+        # Nothing else can be read twice.
+        if name != "-" and os.path.isfile(name) and os.access(name, os.R_OK):
+            text = functools.partial(pieces_of, name)
+        cause = cause_of(text, None if name == "-" else name, error.line, error.number, error.node)
+        yield from Refused(name, error.line, error.number, error.word, error.node, *cause).causes
+    elif error:
+        yield from (sentence for word, sentence in REFUSALS.values() if word == type(error).__name__)
+        if isinstance(error, Read) and name != "-":
             try:
                 next(pieces_of(name), b"")
-            except OSError as error:
-                yield reason_of(error)
-        return
-    line = int(found["place"]) if refused and found["place"] != "end" else None
-    node = int(found["node"]) if other and found["node"] else None
-    text: Optional[Opener] = copy.again if copy and name == "-" else None
-    # Nothing else can be read twice.
-    if name != "-" and os.path.isfile(name) and os.access(name, os.R_OK):
-        text = functools.partial(pieces_of, name)
-    cause = cause_of(text, None if name == "-" else name, line, number, node)
-    yield from Refused(name, line, number, "", node, *cause).causes
+            except OSError as failed:
+                yield reason_of(failed)
 
 
 def pieces_of(name: str) -> Iterator[bytes]:
@@ -201,8 +189,7 @@ def unknown_command(word: str, program: str, commands: Iterable[str]) -> str:
 
 
 def main(words: Optional[Sequence[str]] = None) -> int:
-    """Runs the command, and returns the status. A failure is a line on standard error; a signal ends this like other
-    tools."""
+    """Runs the command, which a signal ends like other tools, and returns the status."""
     for it in (signal.SIGINT, signal.SIGPIPE, signal.SIGCHLD):
         signal.signal(it, signal.SIG_DFL)
     try:

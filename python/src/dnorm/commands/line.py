@@ -17,8 +17,7 @@ from ..files import failing
 from ..library import find_library
 from ..limits import LONGEST
 from ..names import ENDINGS, is_text, real, unread_text
-from ..parts.line import main as parts_main
-from ..parts.line import parser as parts_parser
+from ..parts import line as parts
 from ..program import page, processors
 from ..records import Record
 from . import explain
@@ -113,6 +112,7 @@ OPTIONS: list[tuple[str, str, str, dict[str, Any]]] = [
      {"type": number(1), "default": processors(), "metavar": "N"}),
     (" ".join(TASKS), "--timeout", "a file that takes longer is a failure", {"type": seconds, "metavar": "SECONDS"}),
 ]  # fmt: skip
+LOOKS = "look takes two files, or one folder, and --since and --markdown one folder"
 # What a command has no option for.
 NONE = dict.fromkeys(["since", "markdown", "files_from", "files0_from", "ending", "within", "strict", "exit_first"])
 NONE |= dict.fromkeys(["quiet", "junit", "staged", "form", "verify", "output", "incremental"])
@@ -134,7 +134,7 @@ def parser() -> Parser:
             elif f"{task}+" in commands.split():
                 alone = alone or one.add_mutually_exclusive_group()
                 alone.add_argument(*names.split(), help=about, **more)
-    parents: dict[str, list[Any]] = {"explain": [], "parts": [parts_parser()]}
+    parents: dict[str, list[Any]] = {"explain": [], "parts": [parts.parser()]}
     for task, about in OWN.items():
         tasks.add_parser(task, help=about, parents=parents[task], add_help=False)
     return top
@@ -182,10 +182,7 @@ def check_files(found: argparse.Namespace, error: Callable[[str], NoReturn]) -> 
         (is_verified and found.form, "--verify goes without --form"),
         (found.task == "manifest" and found.quiet and not is_verified, "--quiet goes with --verify"),
         (found.incremental == "-", "--incremental names a file"),
-        (
-            found.task == "look" and len(found.path) > (1 if is_summed else 2),
-            "look takes two files, or one folder, and --since and --markdown one folder",
-        ),
+        (found.task == "look" and len(found.path) > (1 if is_summed else 2), LOOKS),
     ]:
         if is_wrong:
             error(told)
@@ -199,8 +196,7 @@ def check_files(found: argparse.Namespace, error: Callable[[str], NoReturn]) -> 
 
 
 def named(found: argparse.Namespace) -> list[str]:
-    """Returns the paths of the command line, and those that standard input or a file name. Raises Read if that names
-    none."""
+    """Returns the paths of the command line, and those that files name. Raises Read if such a file names none."""
     paths = [*found.path]
     for source, end in ((found.files_from, b"\n"), (found.files0_from, b"\0")):
         if source is None:
@@ -216,21 +212,11 @@ def named(found: argparse.Namespace) -> list[str]:
     return paths
 
 
-def end_by(number: int, run: Optional[Run]) -> None:
-    """Ends this process by a signal, once the run has printed what it knows. Another signal ends it at once."""
-    for it in {*SIGNALS, number}:
-        signal.signal(it, signal.SIG_DFL)
-    if run and number in SIGNALS:
-        with contextlib.suppress(DnormError, Stopped):
-            run.stop()
-    os.kill(os.getpid(), number)
-
-
 def main(words: Optional[Sequence[str]] = None) -> int:
     """Runs a command, and returns the exit status."""
     is_open, words = has_output(), sys.argv[1:] if words is None else words
     if words[:1] and words[0] in OWN:
-        return (explain.main if words[0] == "explain" else parts_main)(words[1:])
+        return (explain.main if words[0] == "explain" else parts.main)(words[1:])
     console, run = Console(), None
     try:
         found = parsed(words)
@@ -245,7 +231,13 @@ def main(words: Optional[Sequence[str]] = None) -> int:
         return run.status
     except Stopped as stopped:
         console.hide()
-        end_by(stopped.number, run)
+        # Another signal ends this process at once.
+        for it in {*SIGNALS, stopped.number}:
+            signal.signal(it, signal.SIG_DFL)
+        if run and stopped.number in SIGNALS:
+            with contextlib.suppress(DnormError, Stopped):
+                run.stop()
+        os.kill(os.getpid(), stopped.number)
         return FAILED
     except DnormError as error:
         failed = Record(error.name, error=error)

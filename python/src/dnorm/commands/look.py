@@ -15,7 +15,7 @@ from collections.abc import Iterable, Sequence
 from typing import Optional
 
 from .. import __version__
-from ..answers import Difference
+from ..answers import DIFFERENCES, Difference
 from ..console import shown
 from ..errors import DnormError, NoProgram, Refused
 from ..folders import Collection
@@ -28,19 +28,8 @@ from ..records import SIZES, Record
 from .reports import counted, groups_of
 from .staged import git
 
-# How many corners of a curve, arcs of a pair, and pairs around a pair a page has; how many causes, and files of one;
-# and how many names in another list.
+# How many corners of a curve, arcs of a pair, pairs around it, causes, files of one, and other names a page has.
 CORNERS, ARCS, AROUND, CAUSES, FILES, LISTED = 5000, 10, 30, 100, 20, 300
-# What the first difference says.
-SAID = {
-    "kind": "They are of two kinds.", "nodes": "They differ in the number of nodes.",
-    "supply": "They differ in the flow of node {node}.", "source": "They differ in the source.",
-    "sink": "They differ in the sink.", "length": "The least lengths from {pair[0]} to {pair[1]} differ.",
-    "capacity": "The total capacities from {pair[0]} to {pair[1]} differ.",
-    "cost": "The least costs of {amount} units from {pair[0]} to {pair[1]} differ.",
-    "items": "They differ in the number of items.", "item": "They differ in item {place}.",
-    "point": "They differ in the point of node {node}.",
-}  # fmt: skip
 # The colours of kinds and of files that are not accepted.
 COLOURS = {"sp": "one", "min": "two", "max": "three", "ss": "four", "p2p": "five", "co": "six"}
 COLOURS |= {"refused": "bad", "failed": "worst"}
@@ -114,7 +103,8 @@ def page_of_pair(found: Differences, left: str, right: str) -> str:
     sides = ["left", "right"] if left == right else [shown(left), shown(right)]
     if not isinstance(first, Difference):
         return page("Two files of one problem", True, "Both files pose the same problem.", [names], {})
-    title, sentence = "Where two files differ", SAID[first.what].format(**vars(first))
+    title, ends = "Where two files differ", "from {} to {}".format(*first.pair or ("", ""))
+    sentence = DIFFERENCES[first.what][1].format(ends, **vars(first))
     data: dict[str, object] = {"sides": sides}
     parts = [names, f"<p><code>{escaped(first)}</code></p>"]
     if found.kind:
@@ -206,8 +196,7 @@ def page_of_folder(it: Collection, folder: str, status: int, changes: Optional[C
 
 
 def lists_of(it: Collection, changes: Changes) -> dict[str, tuple[str, Sequence[str]]]:
-    """Returns lists of what has changed since a manifest, and their colours. A file that is refused now, or fails, is
-    not gone."""
+    """Returns lists of what has changed since a manifest, and their colours. What is not accepted is not gone."""
     faulty = {one.name for one in it.records if one.error}
     return {
         "changed": ("two", changes.changed),
@@ -227,8 +216,7 @@ def since(it: Collection, changes: Changes) -> list[str]:
 
 
 def summary_of(it: Collection, folder: str, status: int, changes: Optional[Changes]) -> str:
-    """Returns a summary of a folder in Markdown: the counts; refused and failed files with lines and causes; and what
-    has changed since a manifest, and the groups of files of one problem."""
+    """Returns a summary of a folder in Markdown: counts, faulty files, changes, and groups of one problem."""
     faults = sorted((one for one in it.records if one.error), key=lambda one: one.status != "refused")
     causes = [(one.name, getattr(one.error, "line", None) or "", cause_of(one), one.hint or "") for one in faults]
     lists = [(name, names) for name, (_, names) in (lists_of(it, changes) if changes else {}).items() if names]
@@ -245,8 +233,7 @@ def summary_of(it: Collection, folder: str, status: int, changes: Optional[Chang
 
 
 def plain(text: object) -> str:
-    """Returns a text for Markdown, in which no character but letters, digits and blanks stands for itself: none begins
-    a link, a cell, a tag or a mention."""
+    """Returns a text for Markdown: only letters, digits and blanks stand for themselves; none begins a link or tag."""
     return re.sub(r"[^\w ]|_", lambda it: f"&#{ord(it[0])};", shown(str(text).replace("\n", "; ")))
 
 
@@ -280,8 +267,7 @@ def graphs_in_groups(records: Iterable[Record]) -> list[list[str]]:
 
 
 def table_of(it: Collection, groups: Sequence[Sequence[str]], changes: Optional[Changes]) -> dict[str, object]:
-    """Returns the data of the table of files, in columns: a text of all names by lines, and of all other cells by
-    blanks. Causes and remarks are numbers of a list."""
+    """Returns the table of files as columns: a text of names by lines, and of other cells, also of notes, by blanks."""
     kinds, places = [*COLOURS], {name: at for at, names in enumerate(groups, 1) for name in names}
     since = [changes.new, changes.changed, [new for _, new in changes.renamed]] if changes else []
     changed_as = {name: at for at, names in enumerate(since, 1) for name in names}
@@ -295,11 +281,7 @@ def table_of(it: Collection, groups: Sequence[Sequence[str]], changes: Optional[
     columns |= {"since": (changed_as.get(one.name) for one in it.records)} if changes else {}
     texts = {name: ("" if n is None else str(n) for n in cells) for name, cells in columns.items()}
     told: dict[str, object] = {name: " ".join(cells) for name, cells in texts.items()}
-    told |= {
-        "kinds": kinds,
-        "colours": [*COLOURS.values()],
-        "notes": [*map(shown, numbers)],
-        "sinces": ["", "new", "changed", "renamed"],
-    }
+    told |= {"kinds": kinds, "colours": [*COLOURS.values()], "notes": [*map(shown, numbers)]}
+    told["sinces"] = ["", "new", "changed", "renamed"]
     told["names"] = "\n".join(shown(one.name) for one in it.records)
     return {"files": told}

@@ -6,7 +6,7 @@ import io
 import os
 import re
 from collections import Counter, defaultdict
-from collections.abc import Container, Iterable, Iterator, Mapping, Sequence
+from collections.abc import Callable, Container, Iterable, Iterator, Mapping, Sequence
 from xml.etree import ElementTree
 
 from ..console import shown
@@ -28,13 +28,10 @@ TOLD = {
     "same": ("the same", "the same"), "groups": ("group", "groups"), "links": ("link", "links"),
     "other_files": ("other file", "other files"),
     "without_graph": ("companion without a graph", "companions without a graph"),
-    "graph_not_accepted": (
-        "companion of a graph that is not accepted", "companions of graphs that are not accepted",
-    ),
+    "graph_not_accepted": ("companion of a graph that is not accepted", "companions of graphs that are not accepted"),
     "other_kind": ("file of another kind than its ending", "files of another kind than their endings"),
 }  # fmt: skip
-# Characters that XML cannot contain, and half characters, by which Python represents the bytes of names that are not
-# UTF-8.
+# Characters that XML cannot contain, and half characters, which are bytes of names that are not UTF-8.
 NO_XML = re.compile("[^\t\n\r\x20-\ud7ff\ue000-\ufffd\U00010000-\U0010ffff]")
 # What a message of GitHub and its properties cannot contain.
 NO_MESSAGE, NO_PROPERTY = re.compile("[%\r\n]"), re.compile("[%\r\n:,]")
@@ -56,8 +53,7 @@ def told_others(others: Mapping[str, str], most: int = 6) -> str:
 
 
 def groups_of(records: Iterable[Record]) -> dict[str, list[str]]:
-    """Returns the names of accepted files that pose the same problem, by their checksums. Of a file and links to it,
-    there is one name, that of the file itself if it is there."""
+    """Returns the names of accepted files by their checksums: of a file and links to it that of the file."""
     found = defaultdict[str, dict[tuple[int, int], str]](dict)
     for it in records:
         # A file may have gone meanwhile.
@@ -113,21 +109,17 @@ def row_of(it: Record) -> str:
 
 
 def annotation_of(it: Record) -> str:
-    """Returns the line by which GitHub shows an error at a line of a file, or a warning about an accepted file with
-    remarks. There is none for any other accepted file."""
+    """Returns the line by which GitHub shows an error at a line of a file, or a warning of remarks, or nothing."""
     properties, level, told = {"file": os.path.normpath(it.name)}, "error", [f"{it.name}{it.what}", *cause_of(it)]
     if not it.error:
         level, told = "warning", [f"{it.name}: accepted {it.kind}, {', '.join(it.remarks)}"] * bool(it.remarks)
     if isinstance(it.error, Refused):
         properties |= {} if it.error.line is None else {"line": str(it.error.line)}
         properties["title"] = f"dnorm: {it.error.number} {it.error.word}"
-    fields, text = (f"{key}={escaped(value, NO_PROPERTY)}" for key, value in properties.items()), "\n".join(told)
-    return f"::{level} {','.join(fields)}::{escaped(text, NO_MESSAGE)}\n" if told else ""
-
-
-def escaped(text: str, forbidden: "re.Pattern[str]") -> str:
-    """Returns a text in which forbidden characters are written as GitHub reads them."""
-    return forbidden.sub(lambda it: f"%{ord(it[0]):02X}", text)
+    by_number: Callable[["re.Match[str]"], str] = lambda it: f"%{ord(it[0]):02X}"
+    fields = (f"{key}={NO_PROPERTY.sub(by_number, value)}" for key, value in properties.items())
+    text = NO_MESSAGE.sub(by_number, "\n".join(told))
+    return f"::{level} {','.join(fields)}::{text}\n" if told else ""
 
 
 def junit(records: Sequence[Record]) -> bytes:
@@ -157,12 +149,6 @@ def for_xml(text: str) -> str:
     """Returns a text in which every character that XML cannot contain is written as \\xNN, as a byte of it."""
     text = os.fsencode(text).decode("utf-8", "backslashreplace")
     return NO_XML.sub(lambda it: "".join(f"\\x{byte:02x}" for byte in it[0].encode()), text)
-
-
-def record_of_differences(it: Differences) -> dict[str, object]:
-    """Returns the JSON object of the differences of two texts."""
-    found = {name: value for name, value in vars(it).items() if name not in ("left", "right")}
-    return {**found, "same": bool(it.first), "first": str(it.first), "pairs": [vars(pair) for pair in it.pairs]}
 
 
 def lines_of_differences(it: Differences) -> Iterator[str]:

@@ -34,10 +34,6 @@ def named(listed: bytes) -> list[str]:
     return [os.fsdecode(it) for it in listed.split(b"\0")[:-1]]
 
 
-def is_strict() -> bool:
-    return git("config", "--type=bool", "--default=false", "dnorm.strict") != b"false\n"
-
-
 class Index:
     """The index of a repository: `modes` has the mode of each file by its name from `top`, the top of the working tree.
     Files are written into `folder`, the current one, and `errors` has those that git cannot read."""
@@ -54,8 +50,7 @@ class Index:
         return git(*words, given=given, top=self.top)
 
     def changed_from(self, commit: Optional[str]) -> list[str]:
-        """Returns the names of the files that the commit has otherwise, or not, and of those that only the commit has.
-        By default, that is the last commit, if there is one."""
+        """Returns the names of the files that the commit, by default the last one, has otherwise, or alone, or not."""
         if commit is None:
             try:
                 commit = os.fsdecode(self.git("rev-parse", "--verify", "--quiet", "HEAD"))[:-1]
@@ -99,8 +94,7 @@ class Index:
             self.errors[name] = Read(name, reason_of(error))
 
     def turned(self, link: str) -> Optional[str]:
-        """Turns a link that was written to what it leads to from the working tree. Returns the name of that if it is a
-        file of the index. One that leads out of the repository has an error."""
+        """Turns a link to what it leads to from the working tree, and returns its name if it is a file of the index."""
         to = os.readlink(link)
         path = os.path.realpath(os.path.join(self.top, os.path.dirname(link), to))
         name = os.path.relpath(path, self.top)
@@ -120,9 +114,8 @@ class Index:
 
 
 def staged(commit: Optional[str], excluded: Sequence[str], stack: ExitStack) -> Found:
-    """Returns the texts that are staged and that the commit has not so, and the companions of such graphs, without what
-    these patterns and the configuration of git exclude. Their names are those in the repository, and they lead to files
-    in a folder, which is the current one until the stack ends."""
+    """Returns the staged texts that the commit has not so, and the companions of such graphs, without what the patterns
+    and git's configuration exclude, by their names in a folder, which is the current one until the stack ends."""
     folder = stack.enter_context(tempfile.TemporaryDirectory(prefix="dnorm-staged-"))
     with failing(Read, "git"):
         index, patterns = Index(os.path.realpath(folder)), [*excluded]

@@ -6,15 +6,15 @@ import json
 import os
 from argparse import Namespace
 from collections import Counter
-from collections.abc import Callable
+from collections.abc import Callable, Iterable
 from itertools import chain, islice
 from typing import Optional
 
 from ..calls import canon_into
 from ..console import Console
 from ..errors import DnormError, Read
-from ..files import Bounds, Copied, File, Sink, Text, enough_memory, sink_of
-from ..folders import Collection, Files, Found, find, in_order_of_names
+from ..files import Bounds, Copied, File, Text, sink_of
+from ..folders import Collection, Found, find, in_order_of_names
 from ..library import held
 from ..limits import Limit, Workers
 from ..manifests import Entry, Manifest, Mark, line_with, manifest_changes, manifest_in, manifest_text, read_manifest
@@ -23,30 +23,19 @@ from ..names import parts_of, place_of, real, stem_of
 from ..pairs import differences
 from ..records import WITH_COMPANIONS, Partners, Reading, Record, Tells, counts_of
 from .look import page_of_folder, page_of_pair, summary_of
-from .reports import (
-    HEADS,
-    annotation_of,
-    causes_of,
-    counted,
-    groups_of,
-    junit,
-    line_of,
-    lines_of_differences,
-    lines_of_show,
-)
-from .reports import record_of_differences, row_of, text_of, told_others
-from .staged import is_strict, staged
+from .reports import HEADS, annotation_of, causes_of, counted, groups_of, junit, line_of, lines_of_differences
+from .reports import lines_of_show, row_of, text_of, told_others
+from .staged import git, staged
 
 # The exit statuses besides 0. The greatest one that applies counts.
 DIFFERS, REFUSED, FAILED = 1, 2, 4
-
 # How long the check of a staged file may take.
 MINUTE = 60
-# What the accepted files are called at the end, by the commands.
-DONE = {"check": "accepted", "manifest": "listed", "verify": "same", "same": "accepted", "list": "listed"}
-DONE |= {"look": "accepted", "show": "shown"}
+# What the accepted files are called at the end, by commands that call them otherwise.
+DONE = {"manifest": "listed", "verify": "same", "list": "listed", "show": "shown"}
 # What is told also if there is none of it.
-ALWAYS = {*DONE.values(), "different", "refused", "failed"}
+ALWAYS = {*DONE.values(), "accepted", "different", "refused", "failed"}
+REMARKS = ("without_graph", "graph_not_accepted", "other_kind")
 
 
 class Incomplete(Exception):
@@ -54,8 +43,7 @@ class Incomplete(Exception):
 
 
 class Run:
-    """A run of a command, with the parsed arguments `words`. It keeps the records of the files. `status` is that of
-    what has no record."""
+    """A run of a command, with the parsed arguments `words`. `own` is the status of what has no record."""
 
     def __init__(self, words: Namespace, console: Console) -> None:
         self.words, self.console = words, console
@@ -80,11 +68,11 @@ class Run:
         """Returns how these files are read whose records tell so much, and more as JSON."""
         words, tells = self.words, "whole" if self.is_json and tells != "contents" else tells
         is_strict = words.task == "check" and words.strict
-        return Reading(words.form, partners, is_strict, tells, words.timeout, found.bounds)
+        return Reading(words.form, partners, is_strict, tells, words.timeout, found.bounds, found.files)
 
-    def sink(self, name: str) -> contextlib.AbstractContextManager[Sink]:
+    def sink(self, name: str) -> contextlib.AbstractContextManager[Callable[[bytes], object]]:
         """Opens what an option names to be written: a file, or standard output."""
-        return contextlib.nullcontext(Sink(name, self.console.print)) if name == "-" else sink_of(name)
+        return contextlib.nullcontext(self.console.print) if name == "-" else sink_of(name)
 
     def check(self) -> None:
         """Checks files, and prints a line for each, and at the end the refusals with their causes."""
@@ -93,16 +81,17 @@ class Run:
             if is_staged:
                 # The texts are in another folder, which becomes the current one.
                 words.junit = words.junit if words.junit in (None, "-") else os.path.abspath(words.junit)
-                words.strict, words.timeout = words.strict or is_strict(), words.timeout or MINUTE
+                words.strict = words.strict or git("config", "--bool", "--default=false", "dnorm.strict") != b"false\n"
+                words.timeout = words.timeout or MINUTE
             found = staged(words.staged or None, words.exclude, stack) if is_staged else self.found()
             report = stack.enter_context(self.sink(words.junit)) if words.junit else None
             reading = self.reading(found, "kind", self.partners(found) if words.companions else None)
             self.read(in_order_of_names(found.files), reading.record, self.print_record)
             if report:
-                report.take(junit(self.records))
+                report(junit(self.records))
         self.print_end()
         if not is_staged or self.status or any(it.remarks for it in self.records):
-            self.sum_up_checks()
+            self.sum_up({}, remarks=REMARKS)
         if is_staged and self.status:
             self.console.complain("git config --add dnorm.exclude PATTERN leaves files out of this check\n")
 
@@ -113,10 +102,6 @@ class Run:
         beside = (it for name in graphs for it in partners.companions.get(stem_of(name), ()))
         found.files = {**dict.fromkeys(beside), **found.files}
         return partners
-
-    def sum_up_checks(self) -> None:
-        found = counts_of(self.records)
-        self.sum_up({}, {it: found[it] for it in ("without_graph", "graph_not_accepted", "other_kind")})
 
     def print_record(self, it: Record) -> None:
         """Prints what the check of a file leads to. Of what is staged, refused and failed files come at the end."""
@@ -144,8 +129,7 @@ class Run:
                 self.console.complain(line_of(it) + causes)
 
     def manifest(self) -> None:
-        """Prints the canonical checksum of each file, or writes them into a file. If that is one with the marks of
-        files, those that have not changed are not read."""
+        """Prints the canonical checksum of each file, or writes them into a file, whose marks leave files out."""
         words, found = self.words, self.found()
         reading, output = self.reading(found, "checksum"), words.incremental or words.output
         # There may be no such file yet.
@@ -161,8 +145,7 @@ class Run:
         def take(it: Record) -> None:
             if it.checksum:
                 entries.append(Entry(it.name, it.checksum, words.form, marks[it.name]))
-            if it.error or self.is_json:
-                self.tell(it)
+            self.tell(it)
 
         with contextlib.suppress(Incomplete), contextlib.ExitStack() as stack:
             target = stack.enter_context(self.sink(output)) if output else None
@@ -172,15 +155,14 @@ class Run:
                 raise Incomplete
             text = manifest_text(entries, words.form, has_marks=words.incremental is not None)
             if target:
-                target.take(os.fsencode(text))
+                target(os.fsencode(text))
             elif not self.is_json:
                 self.console.print(text)
         unchanged = sum(it.status == "unchanged" for it in self.records)
         self.sum_up({"listed": len(entries) - unchanged, "unchanged": unchanged})
 
     def verify(self) -> None:
-        """Compares the canonical checksums of a manifest with those of the files, and prints a line for each. Names
-        files that the paths name and the manifest does not."""
+        """Prints how checksums of files differ from those of a manifest, and files of paths that it does not name."""
         entries = self.listed(self.words.verify)
         form = next(it.form for it in entries.values())
         # Others may have written the manifest.
@@ -197,7 +179,7 @@ class Run:
             counts[status] += 1
             self.say(it, status, {"checksum": entries[it.name].checksum, "form": form})
 
-        self.read(dict.fromkeys(entries), reading.record, take)
+        self.read(entries, reading.record, take)
         known = set(map(place_of, entries))
         for name, error in self.found().files.items():
             if not error and not os.path.lexists(name):
@@ -224,8 +206,7 @@ class Run:
             self.console.print(line_with(it.name, after=f": {told}"))
 
     def listed(self, name: str, is_empty: bool = False) -> dict[str, Entry]:
-        """Returns the entries of a manifest by their names, and tells what is odd about it. It may be empty or not, and
-        like a text, it may be compressed."""
+        """Returns the entries of a manifest, which may be empty or not, and tells what is odd about it."""
         found, has_form = manifest_in(self.given(name))
         if not found and not is_empty:
             raise Read(name, "it lists no file")
@@ -263,31 +244,32 @@ class Run:
         self.sum_up({})
 
     def compare(self) -> None:
-        """Prints the first difference between two files, how many pairs differ, and the arcs of the first ones. A file
-        - is standard input."""
+        """Prints the first difference between two files, how many pairs differ, and the arcs of the first ones."""
         words = self.words
         left, right = map(self.given, (words.left, words.right))
         found = differences(left, right, words.limit, timeout=words.timeout)
         if self.is_json:
-            self.console.print(json.dumps(record_of_differences(found)) + "\n")
+            told = {name: value for name, value in vars(found).items() if name not in ("left", "right")}
+            told |= {"same": bool(found.first), "first": str(found.first), "pairs": [*map(vars, found.pairs)]}
+            self.console.print(json.dumps(told) + "\n")
         elif not words.quiet:
             self.console.print("".join(f"{it}\n" for it in lines_of_differences(found)))
         self.own = 0 if found.first else DIFFERS
 
     def canon(self) -> None:
         words = self.words
-        with self.sink(words.output or "-") as sink:
-            canon_into(sink.take, self.given(words.file), words.form, Limit(words.timeout, words.file))
+        with self.sink(words.output or "-") as take:
+            canon_into(take, self.given(words.file), words.form, words.timeout)
 
     def show(self) -> None:
         """Prints what `dnorm show` prints of each file, below its name if there are several."""
         found = self.found()
         for name, error in found.files.items():
-            with enough_memory(name), contextlib.ExitStack() as stack:
+            with contextlib.ExitStack() as stack:
                 try:
                     if error:
                         raise error
-                    text = Text(self.given(name), stack, Limit(self.words.timeout, name), found.bounds)
+                    text = Text(self.given(name), Limit(self.words.timeout, name), found.bounds)
                     it = stack.enter_context(held(text))
                 except DnormError as failed:
                     self.records.append(Record(name, error=failed))
@@ -325,15 +307,14 @@ class Run:
             changes = manifest_changes(Manifest(older.form, sums), collection.manifest)
         known = (collection, words.path[0], self.status, changes)
         if words.markdown:
-            with self.sink(words.markdown) as sink:
-                sink.take(summary_of(*known).encode())
+            with self.sink(words.markdown) as take:
+                take(summary_of(*known).encode())
         if words.markdown != "-":
             self.console.print(page_of_folder(*known))
-        self.sum_up_checks()
+        self.sum_up({}, remarks=REMARKS)
 
     def found(self) -> Found:
-        """Returns the files that the paths of the command line name. If it is strict, the other files below them have
-        errors; otherwise they are counted."""
+        """Returns the files that the command line names. Other files are counted, or have errors if it is strict."""
         words = self.words
         found = find(words.path, words.ending, words.exclude, follow=words.follow, within=words.within)
         self.excluded += found.excluded
@@ -345,12 +326,11 @@ class Run:
         self.others = found.others
         return found
 
-    def read(self, files: Files, record: Callable[[str], Record], take: Callable[[Record], None]) -> None:
-        """Reads files, but for those with errors, several at the same time, and takes their records in this order."""
+    def read(self, files: Iterable[str], record: Callable[[str], Record], take: Callable[[Record], None]) -> None:
+        """Reads files, several at the same time, and takes their records in this order."""
 
         def one(name: str) -> Record:
-            error = files[name]
-            found = Record(name, error=error) if error else record(name)
+            found = record(name)
             self.console.step()
             return found
 
@@ -394,11 +374,11 @@ class Run:
         if it.error:
             self.console.complain(line_of(it))
 
-    def sum_up(self, first: dict[str, int], more: Optional[dict[str, int]] = None) -> None:
+    def sum_up(self, first: dict[str, int], more: Optional[dict[str, int]] = None, remarks: Iterable[str] = ()) -> None:
         """Prints what was counted, before and after the refused and failed files: as a last JSON object, too."""
         found = counts_of(self.records)
-        counts = first or {DONE[self.words.task]: found["accepted"]}
-        counts |= {it: found[it] for it in ("refused", "failed")} | (more or {})
+        counts = first or {DONE.get(self.words.task, "accepted"): found["accepted"]}
+        counts |= {it: found[it] for it in ("refused", "failed", *remarks)} | (more or {})
         counts |= {"other_files": len(self.others), "excluded": self.excluded}
         if self.is_json:
             ended = {"status": self.status, "form": self.words.form, "unfinished": self.unfinished or None}

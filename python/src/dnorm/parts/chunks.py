@@ -5,8 +5,7 @@ The text is cut into a head and chunks of whole lines. Each chunk is canonicalis
 tail, are cut into ranges of tails, at the same tails in each chunk. For each range, the slices of all chunks are
 canonicalised again, one after another; the ranges, one after another, are the arcs of the whole.
 
-All files of a run are in one folder: head.raw, chunk.N (lines as they are), chunk.N.arcs and range.N.arcs (canonical
-texts)."""
+All files of a run are in one folder: head.raw and chunk.N as they are, chunk.N.arcs and range.N.arcs canonical."""
 
 import contextlib
 import mmap
@@ -17,53 +16,47 @@ import subprocess
 import threading
 from argparse import Namespace
 from array import array
+from bisect import bisect_left
 from collections.abc import Iterable, Iterator, Sequence
 from concurrent.futures import FIRST_EXCEPTION, ThreadPoolExecutor, wait
 from dataclasses import dataclass
 from io import BytesIO
 from itertools import chain, islice
 from typing import Any, BinaryIO, NamedTuple, Optional, Union, cast
+from weakref import WeakSet
 
 from ..console import Console
-from ..errors import DnormError, Failed, Memory, NoProgram, Refused, Write
+from ..errors import DnormError, Memory, NoProgram, Refused, Write
 from ..files import of_stream, reason_of, write_all
 from ..limits import heeding_signals
+from ..program import error_on
 from ..refusals import REFUSALS
 
-# The line on standard error of a run that failed, by `dnorm help`.
-LINE = re.compile(r"(-|out|dnorm)(?::(\d+|end))?: (\d+) (\w+)\n", re.ASCII)
 # The number of bytes that are read at a time.
 BLOCK = 1 << 20
 # A line whose first word is `a`.
 ARC = re.compile(rb"^[ \t\r]*a(?:[ \t\r]|$)", re.M)
 # How many lines precede the arcs in the canonical text of a part.
 HEAD = {"min": 1, "max": 3, "sp": 1}
-# The lines of a part between its problem line and its arcs, which make it a text of its own. In `max` these include a
-# source and a sink, any two nodes. In `max` and `min` they include an arc that means nothing, so that a later node line
-# is a LateNode, as it is in the whole text.
+# The lines of a part between its problem line and its arcs, which make it a text of its own: in `max` any source and
+# sink; in `max` and `min` an arc that means nothing, so that a later node line is a LateNode, as in the whole text.
 FRONT = {"min": b"a 1 1 0 0 0\n", "max": b"n 1 s\nn 2 t\na 1 1 0\n", "sp": b""}
 # A line whose first word is `p`.
 PROBLEM = re.compile(rb"^[ \t\r]*p[ \t\r].*", re.M)
+# A part is given by its pieces, and by the name of its files.
+Part = tuple[Iterable["Piece"], str]
 # The longest wait for a job, in seconds. A signal that comes just before a wait does not end it.
 PAUSE = 0.1
 # About how many tails of a chunk are looked at, to choose the ranges; and how many lines a chunk has at least.
 TAILS, LINES = 100, 1_000_000
 
 
-class Broken(Failed):
-    """A run of the program ended otherwise than the program does."""
-
-    @property
-    def rest(self) -> str:
-        return f": dnorm {self.reason}"
-
-
 class Children:
-    """The processes that run, in all threads."""
+    """The processes that run, in all threads, and perhaps some that have ended."""
 
     def __init__(self) -> None:
         self._lock = threading.Lock()
-        self._running: set[subprocess.Popen[bytes]] = set()
+        self._running = WeakSet[subprocess.Popen[bytes]]()
         self._is_stopped = False
 
     @contextlib.contextmanager
@@ -78,18 +71,12 @@ class Children:
             except (OSError, ValueError) as error:
                 raise NoProgram(words[0], reason_of(error)) from error
             self._running.add(process)
-        try:
-            yield process
-        except BaseException:
-            process.kill()
-            raise
-        finally:
-            process.wait()
-            for it in (process.stdin, process.stdout, process.stderr):
-                if it:
-                    it.close()
-            with self._lock:
-                self._running.discard(process)
+        with process:
+            try:
+                yield process
+            except BaseException:
+                process.kill()
+                raise
 
     def stop(self) -> None:
         """Kills all processes that run, and lets no other start."""
@@ -103,8 +90,7 @@ children = Children()
 
 
 def canon(program: str, text: Iterable[bytes], form: int, to: Union[int, BinaryIO]) -> None:
-    """Writes the canonical text of a text in blocks into a file. Raises Refused if the text has a fault, Memory, Write,
-    NoProgram, and Broken if the program does not answer as it should."""
+    """Writes the canonical text of a text in blocks into a file. Raises Refused, Memory, Write or others."""
     words = [program, "canon", "--form", str(form), "-"]
     with children.running(words, stdin=subprocess.PIPE, stdout=to, stderr=subprocess.PIPE) as process:
         if process.stdin and process.stderr:
@@ -120,20 +106,16 @@ def canon(program: str, text: Iterable[bytes], form: int, to: Union[int, BinaryI
 
 def error_of(line: str, status: int) -> Optional[DnormError]:
     """Returns the error that a run with this line on standard error has ended with, if any."""
-    if status < 0:
-        names = {it.value: f" ({it.name})" for it in signal.Signals}
-        return Broken("dnorm", f"was ended by signal {-status}{names.get(-status, '')}")
-    found = LINE.fullmatch(line)
-    name, place, number, word = found.groups() if found else ("", "", "0", "")
-    is_known = REFUSALS.get(int(number), ("", ""))[0] == word and bool(place) == (int(number) < 30)
-    if is_known and status == 2 and name == "-" and number not in ("30", "31", "32", "33"):
-        return Refused(name, int(place) if place and place != "end" else None, int(number), word)
-    if is_known and status == 4 and (name, number) == ("out", "33"):
-        return Write("out")
-    if is_known and status == 4 and number == "30" and name != "out":
-        return Memory(name)
-    reason = f"did not answer as it should (its status was {status}, and it printed {line!r})"
-    return Broken("dnorm", reason) if status else None
+    error = error_on(line[:-1])
+    is_of_text = status == 2 and isinstance(error, Refused) and error.name == "-"
+    is_written = status == 4 and isinstance(error, Write) and error.name == "out"
+    if is_of_text or is_written or status == 4 and isinstance(error, Memory) and error.name in ("-", "dnorm"):
+        return error
+    names = {it.value: f" ({it.name})" for it in signal.Signals}
+    broken, ended = DnormError("dnorm"), f"was ended by signal {-status}{names.get(-status, '')}"
+    odd = f"did not answer as it should (its status was {status}, and it printed {line!r})"
+    broken.what = f": dnorm {ended if status < 0 else odd}"
+    return broken if status else None
 
 
 class Piece(NamedTuple):
@@ -145,16 +127,15 @@ class Piece(NamedTuple):
 
 
 class Result(NamedTuple):
-    """What became of a part, whose canonical text is in a file. Of its lines, `arcs` are arc lines, which gave `made`
-    canonical arcs. `line` of the part has the first fault, `refusal`; without a fault it is 0. The arcs begin at byte
-    `start` of the file, which has `size` bytes."""
+    """What became of a part: `arcs` arc lines gave `made` canonical arcs, from byte `start` of a file of `size` bytes.
+    `line` of the part has the first fault, the refusal `number`; without a fault both are 0."""
 
     arcs: int
     made: int
     line: int
     start: int
     size: int
-    refusal: str
+    number: int
 
 
 def whole(path: str) -> Piece:
@@ -202,55 +183,38 @@ def canon_part(program: str, kind: str, nodes: int, form: int, pieces: Iterable[
             if error.line is None:
                 raise
             line = error.line - head.count(b"\n")
-            return Result(arcs, 0, line, 0, os.path.getsize(to), f"{error.number} {error.word}")
+            return Result(arcs, 0, line, 0, os.path.getsize(to), error.number)
     with open(to, "rb") as made:
         first = [made.readline() for _ in range(HEAD[kind])]
-    return Result(arcs, int(first[0].split()[3]), 0, sum(map(len, first)), os.path.getsize(to), "")
-
-
-# A part is given by its pieces, and by the name of its files.
-Part = tuple[Iterable[Piece], str]
+    return Result(arcs, int(first[0].split()[3]), 0, sum(map(len, first)), os.path.getsize(to), 0)
 
 
 class Ended(Exception):
     """The run ends with this status, after this line is printed, if it is not empty."""
 
-    def __init__(self, status: int, line: str) -> None:
+    def __init__(self, status: int, line: str, before: str = "canon-in-parts: ") -> None:
         super().__init__(status, line)
-        self.status, self.line = status, line
-
-
-def fail(status: int, line: str) -> Ended:
-    return Ended(status, f"canon-in-parts: {line}")
+        self.status, self.line = status, before + line
 
 
 @dataclass
 class Chunk:
-    """A part of the text: lines in a file, of which this many lines of the text precede the first. `arcs` says which
-    bytes of `path`.arcs are its canonical arcs."""
+    """Lines of the text in a file, which so many lines precede. `arcs` are the canonical arcs of it in `path`.arcs."""
 
     path: str
     before: int
     arcs: Piece = Piece("", 0, 0)
 
 
-class Fault(NamedTuple):
-    """A refusal, at a line of the text."""
-
-    line: int
-    refusal: str
-
-
 class Parts:
-    """A run of this program, in a folder of its own, with the parsed `options`, that writes to `out`. `has_output` says
-    whether that is open."""
+    """A run of this program, in a folder of its own, with the parsed `options`, that writes to `out` if it is open."""
 
     def __init__(self, options: Namespace, folder: str, program: str, out: BinaryIO, has_output: bool) -> None:
         self.options, self.folder, self.program, self.out, self.has_output = options, folder, program, out, has_output
         self.console = Console()
         self.head = f"{folder}/head.raw"
         # The refusal of a `max` text without a source or a sink, which is reported only at the end.
-        self.missing = ""
+        self.missing: Optional[Refused] = None
 
     def run(self, text: BinaryIO) -> None:
         """Reads the text, and writes its canonical text."""
@@ -259,27 +223,28 @@ class Parts:
             self.read_head(chunks[0])
         if not chunks or self.kind == "max" and self.nodes <= 1:
             # A part needs a source and a sink. A graph of one node has at most one pair.
-            return self.in_one_run([self.head, *(it.path for it in chunks)])
+            paths = [self.head, *(it.path for it in chunks)]
+            canon(self.program, (it for path in paths for it in blocks(whole(path))), self.options.form, self.out)
+            if not self.has_output:
+                raise Write("out")
+            return
         results = self.canon("canonicalising chunks", [([whole(it.path)], it.path) for it in chunks], 1)
         chunks, seen, made, fault = self.judged(chunks, results)
         ranges = ranges_of(chunks, self.options.parts or len(chunks))
         parts: list[Part] = [(it, f"{self.folder}/range.{at:07}") for at, it in enumerate(ranges)]
         results = self.canon("canonicalising ranges", parts, self.options.form)
-        earliest = self.too_large(chunks, ranges, results)
-        for it in [earliest, fault]:
+        for it in [self.too_large(chunks, ranges, results), fault, self.missing]:
             if it:
-                raise self.stop(f":{it.line}: {it.refusal}")
-        if self.missing:
-            raise self.stop(self.missing)
+                raise it
         if seen != self.declared:
-            raise self.stop(":end: 20 TooFewLines")
+            raise self.refused(None, 20)
         if made != sum(it.arcs for it in results):
-            raise fail(4, "a part was lost on its way")
+            raise Ended(4, "a part was lost on its way")
         self.write_text(parts, results)
 
-    def stop(self, what: str) -> Ended:
-        """Returns the end with the line that dnorm would print for a text with this fault."""
-        return Ended(2, f"{self.options.file}{what}")
+    def refused(self, line: Optional[int], number: int) -> Refused:
+        """Returns the error of the whole text, as dnorm would tell it."""
+        return Refused(self.options.file, line, number, REFUSALS[number][0])
 
     def tell(self, what: str) -> None:
         if self.console.is_terminal and what:
@@ -302,39 +267,24 @@ class Parts:
                     before, left = before + count, max(0, left - count)
                     if block and not left:
                         stack.close()
-                        left = self.lines_of(len(chunks))
+                        # Each chunk is cut at the bounds of all ranges, so their number grows slower than the text.
+                        left = self.options.lines or max(LINES, LINES * len(chunks) // 100)
                         chunks.append(Chunk(f"{self.folder}/chunk.{len(chunks):07}", before))
                         file = stack.enter_context(open(chunks[-1].path, "wb", buffering=0))
                     end = len(block) if block.count(b"\n") < left else end_of(BytesIO(block), left)
         return chunks
 
-    def lines_of(self, number: int) -> int:
-        """Returns how many lines the chunk of this number has. Each chunk is cut at the bounds of all ranges, so the
-        number of chunks grows slower than the text."""
-        return self.options.lines or max(LINES, LINES * number // 100)
-
-    def in_one_run(self, paths: Sequence[str]) -> None:
-        """Writes the canonical text of files in one run of the program."""
-        text = (block for path in paths for block in blocks(whole(path)))
-        try:
-            canon(self.program, text, self.options.form, self.out)
-        except Refused as error:
-            raise self.stop(error.rest) from error
-        if not self.has_output:
-            raise Write("out")
-
     def read_head(self, first: Chunk) -> None:
-        """Reads the head with the first arc line, so that each fault up to there is reported as it is, and takes the
-        kind and the two numbers of the problem line."""
+        """Takes what the problem line says, once the head with the first arc line has no fault but late ones."""
         with open(first.path, "rb") as chunk:
             arc = chunk.readline()
         try:
             canon(self.program, chain(blocks(whole(self.head)), [arc]), 1, subprocess.DEVNULL)
         except Refused as error:
             if error.number == 19:
-                self.missing = error.rest
+                self.missing = self.refused(None, 19)
             elif error.number != 20:
-                raise self.stop(error.rest) from error
+                raise
         problem = next(filter(None, map(PROBLEM.search, lines(blocks(whole(self.head))))))
         _, kind, nodes, declared, *_ = re.split(rb"[ \t\r]+", problem[0].strip(b" \t\r"))
         self.kind, self.nodes, self.declared = kind.decode(), int(nodes), int(declared)
@@ -364,38 +314,37 @@ class Parts:
                 # The system may let no thread start, which is a RuntimeError.
                 if isinstance(error, (DnormError, RuntimeError)) and not isinstance(error, Memory):
                     why = error.rest.lstrip(": ") if isinstance(error, DnormError) else error
-                    raise fail(4, f"a part failed: {why}") from error
+                    raise Ended(4, f"a part failed: {why}") from error
                 raise
             finally:
                 self.console.hide()
         results = [it.result() for it in futures]
         for (_, path), result in zip(parts, results):
             if os.path.getsize(f"{path}.arcs") != result.size:
-                raise fail(4, "a part was lost on its way")
+                raise Ended(4, "a part was lost on its way")
         return results
 
     def judged(
         self, chunks: Sequence[Chunk], results: Sequence[Result]
-    ) -> tuple[list[Chunk], int, int, Optional[Fault]]:
-        """Visits the chunks in their order, up to the first line that has a fault in its chunk, or that is one arc line
-        too many. Later chunks are left out, and this chunk keeps the lines before. Returns the chunks, how many arc
-        lines and canonical arcs they have, and the fault."""
+    ) -> tuple[list[Chunk], int, int, Optional[Refused]]:
+        """Returns the chunks up to the first line that has a fault in its chunk, or is one arc line too many, of which
+        only the lines before are kept; how many arc lines and canonical arcs they have; and the fault."""
         kept, seen, made = [], 0, 0
         for chunk, result in zip(chunks, results):
-            line, refusal = result.line, result.refusal
+            line, number = result.line, result.number
             if seen + result.arcs > self.declared:
                 with open(chunk.path, "rb") as file:
                     arc_lines = (at for at, it in enumerate(file, 1) if ARC.match(it))
                     over = next(islice(arc_lines, self.declared - seen, None))
                 if not line or line >= over:
-                    line, refusal = over, "7 TooManyLines"
+                    line, number = over, 7
             seen += result.arcs
             kept.append(chunk)
             if line:
                 # In `sp` no sum can be too large in the lines before.
-                fault = Fault(chunk.before + line, refusal)
+                fault = self.refused(chunk.before + line, number)
                 if self.kind == "sp":
-                    raise self.stop(f":{fault.line}: {refusal}")
+                    raise fault
                 with open(chunk.path, "rb+") as file:
                     file.truncate(end_of(file, line - 1))
                 result = self.canon("", [([whole(chunk.path)], chunk.path)], 1)[0]
@@ -409,21 +358,20 @@ class Parts:
 
     def too_large(
         self, chunks: Sequence[Chunk], ranges: Sequence["Slices"], results: Sequence[Result]
-    ) -> Optional[Fault]:
+    ) -> Optional[Refused]:
         """Returns the earliest line of the text at which the sum of a pair is too large across chunks."""
         found = []
         for slices, result in zip(ranges, results):
             if result.line:
                 pieces = [*slices]
-                # The line belongs to the chunk of the slice that contains it. The slices before it, followed by the
-                # lines of the chunk, show which line it is.
+                # The slices before that of the line, followed by the lines of its chunk, show which line it is.
                 at, before = 0, 0
                 while before + (count := sum(it.count(b"\n") for it in blocks(pieces[at]))) < result.line:
                     at, before = at + 1, before + count
                 chunk = next(it for it in chunks if it.arcs.path == pieces[at].path)
                 shown = self.canon("", [([*pieces[:at], whole(chunk.path)], f"{self.folder}/sum")], 1)[0]
-                found.append(Fault(chunk.before + shown.line - before, result.refusal))
-        return min(found, default=None)
+                found.append((chunk.before + shown.line - before, result.number))
+        return self.refused(*min(found)) if found else None
 
     def write_text(self, parts: Sequence[Part], results: Sequence[Result]) -> None:
         """Writes the canonical text: the head with the count of all arcs, and the ranges."""
@@ -452,28 +400,24 @@ def end_of(file: Iterable[bytes], number: int) -> int:
     return sum(map(len, islice(file, number)))
 
 
-def tail_on(line: bytes) -> int:
-    return int(line.split(b" ", 2)[1])
+class Tails(Sequence[int]):
+    """Canonical arcs as a sequence of their tails, of which each counts for as many places as its line has bytes."""
 
+    def __init__(self, path: str) -> None:
+        with open(path, "rb") as file:
+            self._data = mmap.mmap(file.fileno(), 0, access=mmap.ACCESS_READ)
 
-def tails_of(arcs: Piece) -> Iterator[int]:
-    """Yields about a hundred tails at equal distances among canonical arcs."""
-    size = arcs.end - arcs.start
-    with open(arcs.path, "rb") as file:
-        for at in range(arcs.start, arcs.end, max(1, size // TAILS)):
-            file.seek(at)
-            line = file.readline()
-            if at > arcs.start:
-                # The first bytes are the rest of a line.
-                line = file.readline()
-            if line:
-                yield tail_on(line)
+    def __len__(self) -> int:
+        return len(self._data)
+
+    def __getitem__(self, place: Any) -> Any:
+        start = self._data.rfind(b"\n", 0, place) + 1
+        return int(self._data[start : self._data.find(b"\n", place) + 1].split(b" ", 2)[1])
 
 
 @dataclass
 class Slices:
-    """The slices of all chunks, in their order, that are one range: those that are not empty. `cuts` has the places at
-    which each chunk is cut."""
+    """The slices of all chunks, in their order, that are one range and not empty. Each chunk is cut at its `cuts`."""
 
     chunks: Sequence[Chunk]
     cuts: Sequence[Sequence[int]]
@@ -487,35 +431,19 @@ class Slices:
 
 
 def ranges_of(chunks: Sequence[Chunk], count: int) -> list[Slices]:
-    """Cuts the canonical arcs of the chunks into ranges of tails, so that ranges have about the same number of arcs.
-    Returns for each range its slices of all chunks."""
-    tails = sorted(it for chunk in chunks for it in tails_of(chunk.arcs))
-    count = min(count, len(tails))
-    bounds = sorted({tails[at * len(tails) // count] for at in range(1, count)})
-    cuts = [cuts_of(it.arcs, bounds) for it in chunks]
-    return [Slices(chunks, cuts, it) for it in range(len(bounds) + 1)]
-
-
-def cuts_of(arcs: Piece, bounds: Iterable[int]) -> "array[int]":
-    """Returns where canonical arcs begin, where the first one begins whose tail is not below each of the bounds, which
-    rise, and where they end."""
-    cuts = array("q", [arcs.start])
-    with open(arcs.path, "rb") as file, mmap.mmap(file.fileno(), 0, access=mmap.ACCESS_READ) as data:
+    """Cuts the canonical arcs of the chunks into ranges of tails with about the same number of arcs. Returns these."""
+    found: list[int] = []
+    for arcs in (it.arcs for it in chunks):
+        step = max(1, (arcs.end - arcs.start) // TAILS)
+        found += map(Tails(arcs.path).__getitem__, range(arcs.start, arcs.end, step))
+    found.sort()
+    count = min(count, len(found))
+    bounds = sorted({found[at * len(found) // count] for at in range(1, count)})
+    cuts = []
+    for arcs in (it.arcs for it in chunks):
+        # Where the arcs begin, where the first one begins whose tail is not below each bound, and where they end.
+        tails, places = Tails(arcs.path), array("q", [arcs.start])
         for it in bounds:
-            cuts.append(place_of(data, cuts[-1], arcs.end, it))
-    cuts.append(arcs.end)
-    return cuts
-
-
-def place_of(data: mmap.mmap, low: int, high: int, bound: int) -> int:
-    """Returns where the first arc begins whose tail is not below a bound, in arcs that rise from `low`, where a line
-    begins, to `high`, where one ends. It is often near `low`, so steps grow from there."""
-    step = 64
-    while low < high:
-        middle = min(low + step, high - 1)
-        begin, end = data.rfind(b"\n", low, middle) + 1 or low, data.find(b"\n", middle) + 1
-        if tail_on(data[begin:end]) < bound:
-            low, step = end, 2 * step
-        else:
-            high, step = begin, (begin - low) // 2
-    return low
+            places.append(bisect_left(tails, it, places[-1], arcs.end))
+        cuts.append(array("q", [*places, arcs.end]))
+    return [Slices(chunks, cuts, it) for it in range(len(bounds) + 1)]

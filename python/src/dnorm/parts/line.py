@@ -12,11 +12,11 @@ from collections.abc import Iterator, Sequence
 from typing import Any, BinaryIO, ContextManager, Optional
 
 from ..console import SIGNALS, Console, Parser, Stopped, has_output, heed, is_open, number
-from ..errors import DnormError, Memory, Write
-from ..files import file_at, reason_of
+from ..errors import DnormError, Memory, Refused, Write
+from ..files import reason_of, whole_file
 from ..names import packed_of
 from ..program import find_program, processors
-from .chunks import Ended, Parts, children, fail
+from .chunks import Ended, Parts, children
 
 ABOUT = """\
 Writes the canonical text of a graph in parts: the bytes that `dnorm canon FILE` writes, without a process that keeps
@@ -67,12 +67,12 @@ def version_of(program: str) -> str:
         with children.running([program, "--version"], stdout=subprocess.PIPE) as process:
             found = os.fsdecode(process.communicate()[0])
     except DnormError as error:
-        raise fail(3, f"no program {program}") from error
+        raise Ended(3, f"no program {program}") from error
     if process.returncode == 125:
         # What ran has said why.
-        raise Ended(125, "")
+        raise Ended(125, "", "")
     if not found.startswith("dnorm "):
-        raise fail(3, f"{program} is not the built program")
+        raise Ended(3, f"{program} is not the built program")
     return found.removeprefix("dnorm ")
 
 
@@ -87,30 +87,32 @@ def run(words: Sequence[str], has_input: bool, is_written: bool) -> None:
         error("one FILE is wanted, or -")
     found.output = None if found.output == "-" else found.output
     if found.output and packed_of(found.output)[1]:
-        raise fail(3, f"-o {found.output}: the text is not compressed")
-    text = opened(found.file, has_input)
+        raise Ended(3, f"-o {found.output}: the text is not compressed")
+    try:
+        if found.file == "-" and not has_input:
+            raise OSError
+        text = open(0 if found.file == "-" else found.file, "rb", buffering=0, closefd=found.file != "-")
+    except OSError:
+        raise Ended(4, f"{found.file}: 31 Read", "") from None
     with folder_in(found.tmpdir) as at:
         try:
             own: ContextManager[BinaryIO] = open(1, "wb", buffering=0, closefd=False)
-            with file_at(found.output) if found.output else own as out:
+            with whole_file(found.output) if found.output else own as out:
                 Parts(found, at, program, out, is_written or bool(found.output)).run(text)
-        except Memory as error:
-            raise Ended(4, f"{found.file}{error.rest}") from error
+        except (Memory, Refused) as error:
+            raise Ended(4 if isinstance(error, Memory) else 2, f"{found.file}{error.rest}", "") from error
         except Write as error:
-            raise Ended(4, str(error)) from error
+            raise Ended(4, str(error), "") from error
 
 
 @contextlib.contextmanager
 def folder_in(place: str) -> Iterator[str]:
-    """Makes a folder for temporary files, and removes it at the end. Signals wait meanwhile, so that none comes between
-    the making of the folder and the duty to remove it, or into its removal."""
-    if not os.path.isdir(place):
-        raise fail(4, f"no folder {place}")
+    """Makes a folder for temporary files, and removes it at the end. Signals wait while it is made, or is removed."""
     signal.pthread_sigmask(signal.SIG_BLOCK, SIGNALS)
     try:
         made = tempfile.mkdtemp(prefix="canon-in-parts.", dir=os.path.realpath(place))
     except OSError:
-        raise fail(4, f"{place} takes no files") from None
+        raise Ended(4, f"{place} takes no files" if os.path.isdir(place) else f"no folder {place}") from None
     try:
         try:
             signal.pthread_sigmask(signal.SIG_UNBLOCK, SIGNALS)
@@ -121,15 +123,6 @@ def folder_in(place: str) -> Iterator[str]:
     finally:
         shutil.rmtree(made)
         signal.pthread_sigmask(signal.SIG_UNBLOCK, SIGNALS)
-
-
-def opened(name: str, has_input: bool) -> BinaryIO:
-    try:
-        if name == "-" and not has_input:
-            raise OSError
-        return open(0 if name == "-" else name, "rb", buffering=0, closefd=name != "-")
-    except OSError:
-        raise Ended(4, f"{name}: 31 Read") from None
 
 
 def main(words: Optional[Sequence[str]] = None) -> int:
