@@ -123,6 +123,13 @@ WRONG = {
     "units for costs": ("Answers", "cost_of (map snd arcs) flow <= bound", "total flow <= bound"),
     "any cost for the least": ("Answers", "supplies arcs bound -> k <= bound", "supplies arcs bound -> bound <= bound"),
     "answers of different companions": ("Answers", "| _, _ => I = J", "| _, _ => True"),
+    "the same walks in all graphs": (
+        "Answers",
+        "(HasWalkWithin n a u v k <-> HasWalkWithin m b u v k) /\\",
+        "True \\/",
+    ),
+    "the same values in all graphs": ("Answers", "(HasValue s t a x <-> HasValue q r b x) /\\", "True \\/"),
+    "the same costs in all graphs": ("Answers", "(HasFlowWithin s a k <-> HasFlowWithin t b k) /\\", "True \\/"),
 }
 
 
