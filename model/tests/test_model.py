@@ -61,6 +61,75 @@ WRONG = {
     ),
     "a gap at any amount": ("Difference", "forall y k, y < x ->", "forall y k, y < x - 1 ->"),
     "a companion that names node NODES": ("Difference", "nodes <? id", "nodes <=? id"),
+    "an entry for each forced arc": ("Canon", "nodup ends_dec (map fst (filter", "id (map fst (filter"),
+    "an entry for a pair without LOW": ("Canon", "0 <? low (snd a)) arcs", "0 <=? low (snd a)) arcs"),
+    "an entry for each free arc": ("Canon", "nodup price_dec (map", "id (map"),
+    "an entry for the cost of a fixed arc": ("Canon", "low (snd a) <? cap (snd a)", "low (snd a) <=? cap (snd a)"),
+    "one entry for a cost of two pairs": ("Canon", "(fst a, cost (snd a))", "((0, 0), cost (snd a))"),
+    "an entry for a total CAP of 0": ("Canon", "0 <? total (bundle arcs p)", "0 <=? total (bundle arcs p)"),
+    "an entry for each length": ("Canon", "_ arcs => len (nodup ends_dec (map fst arcs))", "_ arcs => len arcs"),
+    "an entry for each node with lengths": (
+        "Canon",
+        "len (nodup ends_dec (map fst arcs))",
+        "len (nodup Z.eq_dec (map (fun a => fst (fst a)) arcs))",
+    ),
+    "one entry for equal items": ("Canon", "Sources ids => len ids", "Sources ids => len (nodup Z.eq_dec ids)"),
+    "a walk on arcs that are not there": ("Answers", "incl walk arcs", "incl walk walk"),
+    "a walk that jumps": ("Answers", "=> fst (fst a) = u", "=> fst (fst a) = fst (fst a)"),
+    "a walk that ends anywhere": ("Answers", "[] => u = v", "[] => u = u"),
+    "a walk against its arcs": (
+        "Answers",
+        "fst (fst a) = u /\\ Leads (snd (fst a)) walk v",
+        "snd (fst a) = u /\\ Leads (fst (fst a)) walk v",
+    ),
+    "a walk from a node that is not there": ("Answers", "IsNode nodes u", "IsNode u u"),
+    "a length of 1 for each arc": (
+        "Answers",
+        "total (map snd walk) <= bound",
+        "total (map (fun _ => 1) walk) <= bound",
+    ),
+    "any bound for the distance": ("Answers", "arcs u v bound -> d <= bound", "arcs u v bound -> bound <= bound"),
+    "a flow above CAP": ("Answers", "0 <= f <= snd a) arcs flow /\\ net", "0 <= f <= f) arcs flow /\\ net"),
+    "a flow below 0": ("Answers", "0 <= f <= snd a) arcs flow /\\ net", "f <= f <= snd a) arcs flow /\\ net"),
+    "inflow less outflow": (
+        "Answers",
+        "fst (fst e) =? v) - Z.b2z (snd (fst e) =? v)",
+        "snd (fst e) =? v) - Z.b2z (fst (fst e) =? v)",
+    ),
+    "outflow alone": ("Answers", "- Z.b2z (snd (fst e) =? v)", "- 0"),
+    "a sink that lets nothing out": ("Answers", "v <> sink -> net", "v <> source -> net"),
+    "a source that lets nothing out": ("Answers", "v <> source -> v <> sink ->", "v <> sink -> v <> sink ->"),
+    "units that get lost": (
+        "Answers",
+        "net_outflow v arcs flow = 0.",
+        "net_outflow v arcs flow = net_outflow v arcs flow.",
+    ),
+    "the value at the sink": ("Answers", "net_outflow source arcs flow = value", "net_outflow sink arcs flow = value"),
+    "any value for the greatest": ("Answers", "arcs other -> other <= value", "arcs other -> other <= other"),
+    "the least value": ("Answers", "arcs other -> other <= value", "arcs other -> value <= other"),
+    "a feasible flow below LOW": ("Answers", "low (snd a) <= f <= cap (snd a)) arcs", "f <= f <= cap (snd a)) arcs"),
+    "a feasible flow above CAP": ("Answers", "low (snd a) <= f <= cap (snd a)) arcs", "low (snd a) <= f <= f) arcs"),
+    "demands for supplies": (
+        "Answers",
+        "(forall v, net_outflow v arcs flow =",
+        "(forall v, - net_outflow v arcs flow =",
+    ),
+    "supplies not used up": (
+        "Answers",
+        "(forall v, net_outflow v arcs flow =",
+        "(forall v, net_outflow v arcs flow <=",
+    ),
+    "a supply of 1 where none is listed": ("Answers", "None => 0 end) /\\", "None => 1 end) /\\"),
+    "units for costs": ("Answers", "cost_of (map snd arcs) flow <= bound", "total flow <= bound"),
+    "any cost for the least": ("Answers", "supplies arcs bound -> k <= bound", "supplies arcs bound -> bound <= bound"),
+    "answers of different companions": ("Answers", "| _, _ => I = J", "| _, _ => True"),
+    "the same walks in all graphs": (
+        "Answers",
+        "(HasWalkWithin n a u v k <-> HasWalkWithin m b u v k) /\\",
+        "True \\/",
+    ),
+    "the same values in all graphs": ("Answers", "(HasValue s t a x <-> HasValue q r b x) /\\", "True \\/"),
+    "the same costs in all graphs": ("Answers", "(HasFlowWithin s a k <-> HasFlowWithin t b k) /\\", "True \\/"),
 }
 
 
@@ -197,6 +266,17 @@ def checked(folder: str, names: Sequence[str]) -> Iterator[tuple[str, Answer]]:
             return
 
 
+def in_proof(path: str, err: bytes) -> bool:
+    """Whether an error is in a proof, and not in a definition or in what a theorem says."""
+    place = re.search(rb"line (\d+), characters (\d+)", err)
+    assert place, err
+    line, column = int(place[1]), int(place[2])
+    with open(path, encoding="ascii") as file:
+        rows = file.read().split("\n")
+    before = "\n".join([*rows[: line - 1], rows[line - 1][:column]])
+    return before.rfind("Proof.") > max(before.rfind("Qed."), before.rfind("Defined."))
+
+
 @pytest.mark.parametrize("what", WRONG)
 def test_wrong(reference: str, tmp_path: str, what: str) -> None:
     """With a wrong definition, a theorem has no proof, or an example is false."""
@@ -211,4 +291,4 @@ def test_wrong(reference: str, tmp_path: str, what: str) -> None:
         file.write(text.replace(old, new))
     *_, (last, found) = checked(folder, names[names.index(name) :])
     assert found.status != 0, "all proofs are checked"
-    assert b"Syntax error" not in found.err and (last != name or name == "Curve"), found
+    assert in_proof(f"{folder}/{last}.v", found.err), found
