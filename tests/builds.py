@@ -47,6 +47,8 @@ def by_rustc(library: str, folder: str, *programs: str) -> None:
     if not shutil.which("rustc"):
         # tools/setup does not install Rust.
         pass_over("rustc")
+    if not os.path.exists(f"{ROOT}/rust"):
+        pass_over("rust/")
     rustc = ["rustc", "--edition=2021", "-O", "-Dwarnings", "-L", folder, "--out-dir", folder]
     native, crates = ["-L", f"native={library}/lib", "-l", "static=dnorm"], f"{ROOT}/rust"
     for words in [

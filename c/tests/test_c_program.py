@@ -124,11 +124,12 @@ def test_other_systems(folder: str, macro: str, other: str) -> None:
 @pytest.mark.parametrize("seed", ["1", "2"])
 def test_same_bytes(folder: str, seed: str) -> None:
     """The file has the same bytes, in whatever order Python keeps sets."""
+    here = c_file(folder)
     made = run([f"{ROOT}/c/file/make", "again.c"], env={**os.environ, "PYTHONHASHSEED": seed})
     if made.status == 125:
         pass_over("the kit, or the archive that make wasm makes")
     assert made == said()
-    assert text_of("again.c") == text_of(c_file(folder))
+    assert text_of("again.c") == text_of(here)
 
 
 @pytest.mark.parametrize("build", [pytest.param(it, marks=[pytest.mark.wine] * (it == "Windows")) for it in BUILDS])
