@@ -232,6 +232,13 @@ def test_recipe(
         assert (ran.status, left) == (status, ["given"] if given else []), f"{given!r}: {ran.out!r}"
 
 
+def test_bad_links(folder: str) -> None:
+    """tools/pages.py names the links that lead nowhere."""
+    make({"a.md": "# A head\n[b](b.md) [up](#a-head) [c](c.md#a-head) [d](https://d.example)\n", "c.md": "# C\n"})
+    told = "a.md: links to b.md, and there is no b.md\na.md: links to c.md#a-head, and c.md has no such heading\n"
+    assert run([sys.executable, f"{ROOT}/tools/pages.py", folder]) == said(told)
+
+
 @pytest.mark.slow
 def test_installed_readme(tested: str, folder: str) -> None:
     """README.md as bin/install installs it: its commands run where it lies, by what is installed, and its links lead to

@@ -121,7 +121,7 @@ def test_rule(folder: str) -> None:
     assert run(["copy/tools/lists", "--write"]) == said(gap, status=1)
     write("copy/python/src/dnorm/refusals.json", f"{before}{ROW.format(number)}{NEXT}{after}")
     found = run(["copy/tools/lists", "--write"])
-    assert (found.err, found.status) == (b"", 1)
+    assert (found.err, found.status, found.out.count(b": its order of checking is ")) == (b"", 1, 2)
     assert {it.partition(":")[0] for it in found.out.decode().splitlines()} == BY_HAND
     assert run(["copy/tools/lists"]) == found
 

@@ -8,6 +8,7 @@ prints the version of a kit stands for one."""
 import contextlib
 import os
 import re
+import runpy
 import shutil
 import signal
 import subprocess
@@ -192,6 +193,74 @@ def test_proved_once(clone: Clone) -> None:
         assert (found.status, b" build dn_num --statements" in found.out) == (0, proves)
 
 
+def test_rules(clone: Clone) -> None:
+    """What make proves a crate of: its files, its folders, so that a new file counts, the crates below, and the kit."""
+    found = clone.run("tools/prover.py", "rules", path=f"{clone.folder}/front:{WITHOUT_RT}")
+    place, ready = "crates/dnorm/out/rlib", f"{clone.folder}/kit/WHAT".replace(" ", "\\ ")
+    first = f"{place}/dn_num.proved: crates/dn_num/src crates/dn_num/src/lib.rt {ready}\n"
+    second = f"{place}/dnorm.proved: {place}/dn_num.proved crates/dnorm/src crates/dnorm/src/lib.rt {ready}\n"
+    assert found == said(first + second)
+
+
+def test_words_of_make() -> None:
+    """make passes on a prefix, and words for pytest."""
+    for words, end in [("install PREFIX=/x", b"bin/install /x\n"), ("test TESTS=--x", b" -rfEs --x\n")]:
+        found = run(["make", "-n", "-C", ROOT, "--no-print-directory", *words.split()])
+        assert (found.out.endswith(end), found.err, found.status) == (True, b"", 0), found
+
+
+def test_setup(folder: str) -> None:
+    """tools/setup installs what is missing, and fails as long as something is."""
+    last, *here = text_of(f"{ROOT}/tools/setup").partition("packages=(")[2].partition(")")[0].split()
+    make({"bin/sudo": '#!/bin/sh\nshift 2\nexec "$@"\n', "bin/dpkg-query": "#!/bin/sh\ncat here\n"}, 0o755)
+    make({"bin/apt-get": '#!/bin/sh\necho "$@" >> called\n'}, 0o755)
+    own = {**os.environ, "PATH": f"{folder}/bin:{os.environ['PATH']}"}
+    for installed, status in [(here, 1), ([last, *here], 0)]:
+        write("here", "".join(f"installed {it}\n" for it in installed))
+        assert run([f"{ROOT}/tools/setup"], env=own).status == status
+    assert {it.partition(" install ")[2] for it in text_of("called").splitlines()} == {"", last}
+
+
+def test_figures(folder: str) -> None:
+    """bench/figures names a table that its file does not give."""
+    for it in ["bench", "docs/img", "tools"]:
+        shutil.copytree(f"{ROOT}/{it}", it, ignore=shutil.ignore_patterns("__pycache__"))
+    write("README.md", text_of(f"{ROOT}/README.md"))
+    assert run(["bench/figures"]) == said()
+    write("README.md", text_of("README.md").replace("| 101 |", "| 100 |"))
+    assert run(["bench/figures"]) == said("README.md has not the table that bench/figures --write makes\n", status=1)
+
+
+# tools/lint refuses a script that has the whole flag.
+HOLES = "holes"
+
+
+def test_lint(folder: str, capfd: pytest.CaptureFixture[str], monkeypatch: pytest.MonkeyPatch) -> None:
+    """What no tool finds in scripts and sources."""
+    files = {"long.sh": f"#!/bin/sh\n#{'x' * 120}\n", "unseen": "#!/usr/bin/perl\n", "flag.sh": f"rt --allow-{HOLES}\n"}
+    make(files | {"idle": "#!/usr/bin/env python3\ndef f() -> None: ...\n", "crates/a/src/lib.rt": f"/{'/' * 120}\n"})
+    lint = runpy.run_path(f"{ROOT}/tools/lint")
+    for it in ["scripts", "files"]:
+        monkeypatch.setitem(lint[it].__globals__, "ROOT", folder)
+    lint["no_tool_finds"](tally := lint["Tally"](), lint["scripts"]())
+    told = capfd.readouterr().out
+    assert [it for it in ["long.sh:2", "lib.rt:1", "unseen", "idle: f", "flag.sh"] if it not in told] == [], told
+    assert tally.failed == 4
+
+
+def test_wrong_definitions(folder: str) -> None:
+    """An error of a wrong definition itself is no refusal, and no edit stays."""
+    for it in ["usage.py", "wrong-definitions", "wrong-definitions.txt"]:
+        make({f"tools/{it}": text_of(f"{ROOT}/tools/{it}")}, 0o755)
+    os.makedirs("crates/dn_answers")
+    line = "rt: must-fail dn_answers/$it: refused, as it must be: ./{}/x.antt:1:1: error"
+    for place, status in [("proofs", 0), ("specs", 1)]:
+        script = f'for it in crates/dn_answers/must-fail/*; do echo "{line.format(place)}"; done'
+        make({"bin/rt": f"#!/bin/sh\n{script}\n"}, 0o755)
+        ran = run(["tools/wrong-definitions"], env={**os.environ, "PATH": f"{folder}/bin:{os.environ['PATH']}"})
+        assert (ran.status, os.listdir("crates/dn_answers")) == (status, []), ran
+
+
 def test_library(clone: Clone) -> None:
     """c/put takes what is built, else what is released for this processor, else it compiles the released C file."""
     to = f"{clone.folder}/prefix"
@@ -347,18 +416,27 @@ def test_ended_check(folder: str, heeded: None, stays: str, number: int) -> None
                 os.kill(int(it), signal.SIGKILL)
 
 
-@pytest.mark.parametrize("failing", ["", "bench/figures", "bin/rt", "tools/wrong-bodies"])
-def test_counts_of_check(folder: str, heeded: None, failing: str) -> None:
+# What fails a part, if it takes the place of its count; and how many checks then pass and fail.
+FAILS = "0 passed, 1 failed'; exit 1", 27, 9
+FAILING = [(it, *FAILS) for it in ["bench/figures", "bin/rt", "tools/wrong-bodies"]]
+FAILING += [("", "1 passed, 0 failed'", 28, 8)]
+FAILING += [("tools/lint", "1 passed, 0 failed'; exit 3", 28, 9)]
+FAILING += [("bin/rt", "refused, as it must be (only because a proof file names it)\n1 passed, 0 failed'", 27, 9)]
+
+
+@pytest.mark.parametrize("failing, count, passed, failed", FAILING)
+def test_counts_of_check(folder: str, heeded: None, failing: str, count: str, passed: int, failed: int) -> None:
     """What ./check counts, of its own scripts and of pytest, and its status."""
     own = scratch_check(folder)
     make({"bin/make": STANDS.replace("1 passed, 0 failed", "1 failed, 5 passed, 2 skipped, 1 error in 0.1s")}, 0o755)
     if failing:
-        write(failing, STANDS.replace("1 passed, 0 failed'", "0 passed, 1 failed'; exit 1"))
+        write(failing, STANDS.replace("1 passed, 0 failed'", count))
     found = run(["./check"], env=own)
-    count = f"{28 - bool(failing)} passed, {8 + bool(failing)} failed, 8 skipped"
-    assert (found.out.decode().splitlines()[-1], found.status) == (count, 1), found
+    last = f"{passed} passed, {failed} failed, 8 skipped"
+    assert (found.out.decode().splitlines()[-1], found.status) == (last, 1), found
     told = [it for it in found.out.decode().splitlines() if it.endswith(" failed:")]
-    assert any(it.startswith(failing.removeprefix("bin/")) for it in told) or not failing, told
+    part = "shows_contracts" if "as it must be" in count else failing.removeprefix("bin/")
+    assert any(it.startswith(part) for it in told) or not failing, told
     assert os.listdir("temporary") == []
 
 
