@@ -84,6 +84,14 @@ def test_pages_of_package(made: str) -> None:
         assert {*OPTION.findall(text)} == {*found}, page
 
 
+def test_page_of_header(made: str) -> None:
+    """The page has each function of the library: in its name, with what it takes, and with what it does."""
+    page = text_of(f"{made}/share/man/{PAGES[4]}")
+    parts = [page.partition(f".SH {it}\n")[2].partition(".SH ")[0] for it in ("NAME", "SYNOPSIS", "FUNCTIONS")]
+    for it in re.findall(r"^ +(dnorm_\w+);$", text_of(f"{ROOT}/c/dnorm.map"), re.M):
+        assert [bool(re.search(rf"\b{it}\b", part)) for part in parts] == [True] * 3, it
+
+
 def test_refusals(help_of: Callable[[str], str]) -> None:
     """The help has the refusals of the table, and all other lists of them are as in the table."""
     told = [(int(number), name, " ".join(it.split())) for number, name, it in REFUSAL.findall(help_of("help"))]

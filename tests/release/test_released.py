@@ -248,19 +248,6 @@ def test_lint(folder: str, capfd: pytest.CaptureFixture[str], monkeypatch: pytes
     assert tally.failed == 4
 
 
-def test_wrong_definitions(folder: str) -> None:
-    """An error of a wrong definition itself is no refusal, and no edit stays."""
-    for it in ["usage.py", "wrong-definitions", "wrong-definitions.txt"]:
-        make({f"tools/{it}": text_of(f"{ROOT}/tools/{it}")}, 0o755)
-    os.makedirs("crates/dn_answers")
-    line = "rt: must-fail dn_answers/$it: refused, as it must be: ./{}/x.antt:1:1: error"
-    for place, status in [("proofs", 0), ("specs", 1)]:
-        script = f'for it in crates/dn_answers/must-fail/*; do echo "{line.format(place)}"; done'
-        make({"bin/rt": f"#!/bin/sh\n{script}\n"}, 0o755)
-        ran = run(["tools/wrong-definitions"], env={**os.environ, "PATH": f"{folder}/bin:{os.environ['PATH']}"})
-        assert (ran.status, os.listdir("crates/dn_answers")) == (status, []), ran
-
-
 def test_library(clone: Clone) -> None:
     """c/put takes what is built, else what is released for this processor, else it compiles the released C file."""
     to = f"{clone.folder}/prefix"
@@ -416,11 +403,10 @@ def test_ended_check(folder: str, heeded: None, stays: str, number: int) -> None
                 os.kill(int(it), signal.SIGKILL)
 
 
-# What fails a part, if it takes the place of its count; and how many checks then pass and fail.
+# What fails a part, in place of its count; and how many checks of ./check then pass and fail.
 FAILS = "0 passed, 1 failed'; exit 1", 27, 9
-FAILING = [(it, *FAILS) for it in ["bench/figures", "bin/rt", "tools/wrong-bodies"]]
-FAILING += [("", "1 passed, 0 failed'", 28, 8)]
-FAILING += [("tools/lint", "1 passed, 0 failed'; exit 3", 28, 9)]
+FAILING = [("", "1 passed, 0 failed'", 28, 8), *((it, *FAILS) for it in ["bench/figures", "tools/wrong-bodies"])]
+FAILING += [("bin/rt", *FAILS), ("tools/lint", "1 passed, 0 failed'; exit 3", 28, 9)]
 FAILING += [("bin/rt", "refused, as it must be (only because a proof file names it)\n1 passed, 0 failed'", 27, 9)]
 
 
