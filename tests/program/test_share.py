@@ -8,6 +8,7 @@ import sys
 from collections.abc import Callable
 
 import pytest
+from builds import sentences_of
 from needs import need
 from refusal_table import faults, refusals
 from shared import ROOT, Answer, run, said, text_of, write
@@ -20,9 +21,8 @@ PAGES += [f"man3/{it}.3" for it in ["dnorm.h", "dnorm_tools.h"]]
 WIDTH = 80
 COMMAND = re.compile(r"^  (\w+)  ", re.M)
 OPTION = re.compile(r"^  +(?:-\w(?: \w+)?, +)?(--[\w-]+)", re.M)
-# An example in the help, and a refusal: its number, its name and its sentence.
+# An example in the help.
 EXAMPLE = re.compile(r"^  \$ dnorm (.+)\n((?:  .+\n)+)", re.M)
-REFUSAL = re.compile(r"^ {2,3}(\d+) (\w+) {2,}(.+(?:\n {22}.+)*)$", re.M)
 # What a page has in place of a sign.
 SIGNS = {"\\-": "-", "\\(ha": "^", "\\(aq": "'", "\\e": "\\", "\\&": "", "\\fB": "", "\\fI": "", "\\fR": ""}
 
@@ -92,10 +92,9 @@ def test_page_of_header(made: str) -> None:
         assert [bool(re.search(rf"\b{it}\b", part)) for part in parts] == [True] * 3, it
 
 
-def test_refusals(help_of: Callable[[str], str]) -> None:
+def test_refusals(tested: str) -> None:
     """The help has the refusals of the table, and all other lists of them are as in the table."""
-    told = [(int(number), name, " ".join(it.split())) for number, name, it in REFUSAL.findall(help_of("help"))]
-    assert told == [(it.number, it.name, it.sentence) for it in refusals()]
+    assert [*sentences_of(tested).items()] == [(it.number, f"{it.name}: {it.sentence}") for it in refusals()]
     assert run([sys.executable, f"{ROOT}/tools/lists"]) == said()
 
 
