@@ -6,7 +6,7 @@ import shutil
 import pytest
 from builds import PROJECT, by_cmake, need_cmake, version_of
 from known import CANONICAL
-from needs import need, pass_over
+from needs import need, need_here
 from shared import ROOT, run, said, text_of, write
 
 pytestmark = pytest.mark.slow
@@ -57,9 +57,8 @@ target_link_libraries(reads dnorm::dnorm)
 def archive(tested: str, folder: str) -> str:
     """A folder with what the archive of the C file has."""
     need_cmake()
-    if not os.path.exists(file := f"{ROOT}/released/c/libdnorm.c"):
-        pass_over("released/c")
-    assert run([f"{ROOT}/c/file/stage", "archive", file, version_of(tested)]) == said()
+    need_here("released/c")
+    assert run([f"{ROOT}/c/file/stage", "archive", f"{ROOT}/released/c/libdnorm.c", version_of(tested)]) == said()
     return f"{folder}/archive"
 
 

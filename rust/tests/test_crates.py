@@ -9,7 +9,7 @@ import shutil
 import pytest
 from builds import GIVEN, by_rustc, refusal_lines, sentences_of, version_of, with_little_memory
 from known import CANONICAL, FLOWS
-from needs import need, pass_over
+from needs import need, need_here
 from shared import ROOT, run, said, text_of, write
 
 pytestmark = pytest.mark.slow
@@ -91,8 +91,7 @@ def uses(c_library: str, tmp_path_factory: pytest.TempPathFactory) -> str:
 
 @pytest.mark.parametrize("compiler", OLDEST)
 def test_oldest_rust(folder: str, compiler: str) -> None:
-    if not shutil.which(compiler):
-        pass_over(compiler)
+    need_here(compiler)
     write("clippy.toml", 'msrv = "1.63"\n')
     environment = {**os.environ, "CLIPPY_CONF_DIR": folder}
     common = [compiler, "--edition=2021", "--emit=metadata", "-Dwarnings", *OLDEST[compiler], "-L."]
@@ -132,8 +131,7 @@ def test_memcheck_of_rust(uses: str, text: bytes) -> None:
 def test_cargo(c_library: str, folder: str, place: str, is_static: str, members: list[str]) -> None:
     """cargo builds a program that depends on the crate `dnorm`, from both libraries. Its workspace may have the crates
     as members, or merely below its root."""
-    if not shutil.which("cargo"):
-        pass_over("cargo")
+    need_here("cargo")
     for name in ["dnorm", "dnorm-sys"]:
         shutil.copytree(f"{CRATES}/{name}", name)
     os.makedirs("reads/src")
@@ -156,10 +154,7 @@ def test_cargo(c_library: str, folder: str, place: str, is_static: str, members:
 def test_cargo_compiles(folder: str) -> None:
     """Without a library, the crate compiles the C file; what is wrong is said in a sentence."""
     need("cc", "ar")
-    if not shutil.which("cargo"):
-        pass_over("cargo")
-    if not os.path.exists(f"{ROOT}/released/c"):
-        pass_over("released/c")
+    need_here("cargo", "released/c")
     shutil.copytree(CRATES, "rust")
     os.makedirs("released/c")
     for it in ["libdnorm.c", "dnorm.h"]:

@@ -15,7 +15,7 @@ from typing import Any
 import pytest
 from builds import version_of
 from known import ROADS, ROADS_CANON, Row, rows
-from needs import cases, need, pass_over, seeds
+from needs import cases, need, need_here, pass_over, seeds
 from shared import ROOT, Quick, pipe, run, said, text_of, write
 from texts import lines_of, made, spelled, spoilt
 
@@ -188,8 +188,7 @@ def pack(folder: str) -> tuple[bytes, int]:
 def packed(folder: str) -> str:
     """Packs the package of a copy of what it is made of, and returns the folder of an app that has it."""
     need("npm")
-    if not os.path.exists(f"{ROOT}/released"):
-        pass_over("released/")
+    need_here("released/")
     for it in ["web", "released", "LICENSE-MIT", "LICENSE-APACHE", "THIRD-PARTY"]:
         assert run(["cp", "-R", f"{ROOT}/{it}", folder]) == said()
     os.makedirs(f"{folder}/python/src/dnorm")
