@@ -27,7 +27,7 @@ pytestmark = pytest.mark.slow
 FILES = ["bin/dnorm", "c/put", "tools/kit.py", "tools/prover.py", "tools/released", "tools/usage.py", "tools/usage.sh"]
 FILES += [f"c/dnorm{it}" for it in [".h", "_codes.h", "_tools.h", ".hpp", ".pc", ".map"]]
 FILES += ["c/free.c", "c/dnorm-config.cmake", "c/dnorm-config-version.cmake", "crates/dn_command/src/help.rt"]
-FILES += ["Makefile"]
+FILES += ["Makefile", "packaging/third-party"]
 LIBRARIES = ["libdnorm.a", "libdnorm.so.3"]
 SOURCES = ["crates", "crates.txt", "c/dnorm.map", "c/free.c"]
 # A path of commands without `rt`, and what a kit prints of itself.
@@ -200,6 +200,15 @@ def test_rules(clone: Clone) -> None:
     first = f"{place}/dn_num.proved: crates/dn_num/src crates/dn_num/src/lib.rt {ready}\n"
     second = f"{place}/dnorm.proved: {place}/dn_num.proved crates/dnorm/src crates/dnorm/src/lib.rt {ready}\n"
     assert found == said(first + second)
+
+
+def test_third_party(clone: Clone) -> None:
+    """packaging/third-party names a library of the kit whose notice is missing."""
+    shutil.rmtree(f"{clone.folder}/build")
+    made = {"crates.txt": "dn_num: itoa\n", "kit/rlibs/itoa.rlib/format": "", "kit/rattle/itoa/LICENSE": "terms\n"}
+    make({f"{clone.folder}/{it}": text for it, text in {**made, "docs/PROVED.md": ""}.items()})
+    told = "THIRD-PARTY lacks the notice of itoa: packaging/third-party --write adds it\n"
+    assert clone.run("packaging/third-party", path=f"{clone.folder}/front:{WITHOUT_RT}") == said(told, status=1)
 
 
 def test_words_of_make() -> None:
