@@ -9,7 +9,7 @@ import sys
 
 import assembled
 import pytest
-from needs import need
+from needs import need, need_here
 from shared import ROOT, make, run, said, text_of, write
 
 pytestmark = pytest.mark.slow
@@ -178,6 +178,7 @@ def test_faults(some_functions: Assembled, folder: str, file: str, old: str, new
 
 def test_whole_file() -> None:
     """The functions of a module stand between the two parts of the file that are written by hand."""
+    need_here("tools/")
     script = runpy.run_path(f"{ROOT}/c/file/make")
     text = script["text"](script["Module"](assembled.module(1, 0)[0]))
     head, tail = (text_of(f"{ROOT}/c/file/{it}.c") for it in ("head", "tail"))
