@@ -13,13 +13,12 @@ MACHINE := $(shell uname -m)
 PROVER := tools/prover.py
 # Where proved libraries are: `rt ci` refuses sources elsewhere, and a library has some.
 P := crates/dnorm/out/rlib
-# With CHECKED=1, crates are taken from where `rt ci` or `rt check` has proved them. Functions of make do not export it.
-export CHECKED
 ifneq (,$(filter-out help install lint check,$(or $(MAKECMDGOALS),program)))
 $(if $(shell mkdir -p build 2> /dev/null && test -w build && echo yes),,$(error it writes into build/, and cannot))
 endif
 ifneq (,$(filter-out help install page test fuzz lint check clean,$(MAKECMDGOALS) $(if $(MAKECMDGOALS),,program)))
 KIT := $(shell tools/kit.py 2> build/kit.said || true)
+# With CHECKED=1, crates are taken from where `rt ci` or `rt check` has proved them. Functions of make do not export it.
 $(shell CHECKED=$(CHECKED) $(PROVER) rules > build/crates.mk)
 include build/crates.mk
 # As many crates at once as there are processors, and 3 GB of memory for each.

@@ -6,7 +6,7 @@ import re
 import shutil
 
 from known import CANONICAL, REFUSED
-from needs import leave_out, need, pass_over
+from needs import leave_out, need, need_here
 from shared import LIMIT, ROOT, Answer, run, said, within, write
 
 # A project that finds the library, in this version.
@@ -44,9 +44,7 @@ def solver(name: str, library: str, folder: str) -> str:
 
 def by_rustc(library: str, folder: str, *programs: str) -> None:
     """Builds the crates for Rust and these programs in a folder, by rustc alone."""
-    if not shutil.which("rustc"):
-        # tools/setup does not install Rust.
-        pass_over("rustc")
+    need_here("rustc", "rust/")
     rustc = ["rustc", "--edition=2021", "-O", "-Dwarnings", "-L", folder, "--out-dir", folder]
     native, crates = ["-L", f"native={library}/lib", "-l", "static=dnorm"], f"{ROOT}/rust"
     for words in [

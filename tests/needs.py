@@ -62,6 +62,14 @@ def need(*tools: str) -> None:
             leave_out(it)
 
 
+def need_here(*them: str) -> None:
+    """Passes over the test if one of these is not here: a command that tools/setup does not install, or a path, which
+    may begin at the top of the repository."""
+    for it in them:
+        if not (os.path.exists(os.path.join(ROOT, it)) if "/" in it else shutil.which(it)):
+            pass_over(it)
+
+
 def need_proc() -> None:
     """Passes over the test if the system has no /proc, which it needs by itself or by bash's <(..)."""
     if not os.path.exists("/proc/self/fd"):

@@ -4,11 +4,12 @@ is not known is refused."""
 
 import functools
 import random
+import runpy
 import sys
 
 import assembled
 import pytest
-from needs import need
+from needs import need, need_here
 from shared import ROOT, make, run, said, text_of, write
 
 pytestmark = pytest.mark.slow
@@ -173,6 +174,15 @@ def test_faults(some_functions: Assembled, folder: str, file: str, old: str, new
     make(texts | {file: texts[file].replace(old, new, 1)})
     stops = some_functions.make(folder, folder)
     assert stops or some_functions.by_c(folder, "gcc", "-O0", *more) != some_functions.by_node
+
+
+def test_whole_file() -> None:
+    """The functions of a module stand between the two parts of the file that are written by hand."""
+    need_here("tools/")
+    script = runpy.run_path(f"{ROOT}/c/file/make")
+    text = script["text"](script["Module"](assembled.module(1, 0)[0]))
+    head, tail = (text_of(f"{ROOT}/c/file/{it}.c") for it in ("head", "tail"))
+    assert text.startswith(head) and text.endswith(tail) and len(text) > len(head + tail)
 
 
 @pytest.mark.parametrize("why, old, new, other", STOPS, ids=[it[0] for it in STOPS])

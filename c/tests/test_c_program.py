@@ -23,7 +23,7 @@ from texts import lines_of, made, spelled, spoilt
 from dnorm.library import ABI
 
 pytestmark = pytest.mark.slow
-# Where the file is, made here or released, and what lies beside it.
+# Where the file is, made here or released.
 PLACES = [f"{ROOT}/build", f"{ROOT}/released/c"]
 # What runs a program for Windows: wine, without random addresses if the system allows that. With them, one of some
 # 5,000 runs ends, since an address that wine needs is taken.
@@ -56,9 +56,8 @@ def c_file(folder: str) -> str:
     if not found:
         pass_over("the C file (c/file/make makes it)")
     version = re.search(r'VERSION: &str = "(.+)"', text_of(f"{ROOT}/crates/dn_command/src/help.rt"))
-    shutil.copy(f"{found[0]}/libdnorm.c", folder)
-    for it in ["dnorm.h", "dnorm_codes.h", "dnorm_tools.h", "dnorm.hpp", "dnorm.c"]:
-        write(f"{folder}/{it}", text_of(f"{ROOT}/c/{it}").replace("@VERSION@", version[1] if version else ""))
+    words = [folder, f"{found[0]}/libdnorm.c", version[1] if version else ""]
+    assert run([f"{ROOT}/c/file/stage", *words]) == said()
     return f"{folder}/libdnorm.c"
 
 
@@ -124,11 +123,12 @@ def test_other_systems(folder: str, macro: str, other: str) -> None:
 @pytest.mark.parametrize("seed", ["1", "2"])
 def test_same_bytes(folder: str, seed: str) -> None:
     """The file has the same bytes, in whatever order Python keeps sets."""
+    here = c_file(folder)
     made = run([f"{ROOT}/c/file/make", "again.c"], env={**os.environ, "PYTHONHASHSEED": seed})
     if made.status == 125:
         pass_over("the kit, or the archive that make wasm makes")
     assert made == said()
-    assert text_of("again.c") == text_of(c_file(folder))
+    assert text_of("again.c") == text_of(here)
 
 
 @pytest.mark.parametrize("build", [pytest.param(it, marks=[pytest.mark.wine] * (it == "Windows")) for it in BUILDS])

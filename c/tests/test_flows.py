@@ -12,7 +12,7 @@ from typing import NamedTuple
 import pytest
 from builds import by_rustc, solver
 from needs import leave_out, need
-from shared import ROOT, run, write
+from shared import ROOT, run, said, write
 
 pytestmark = [pytest.mark.slow, pytest.mark.usefixtures("folder")]
 EXAMPLES = f"{ROOT}/c/examples"
@@ -129,6 +129,14 @@ def distances_from(source: int, lines: list[tuple[int, int, int]]) -> dict[int, 
             if tail in found and found[tail] + length < found.get(head, 10**9):
                 found[head], is_changed = found[tail] + length, True
     return found
+
+
+def test_greatest_flow_in_rust(c_library: str, folder: str) -> None:
+    by_rustc(c_library, folder, f"{EXAMPLES}/push_relabel.rs")
+    write("pipes", b"p max 3 2\nn 1 s\nn 3 t\na 1 2 7\na 2 3 5\n")
+    assert run(["./push_relabel", "pipes"]) == said("greatest flow 5\n")
+    full = run(["sh", "-c", 'exec "$@" > /dev/full', "sh", "./push_relabel", "pipes"])
+    assert full == said(b"", "No space left on device (os error 28)\n", 2)
 
 
 def test_distances(c_library: str, folder: str) -> None:

@@ -1,6 +1,5 @@
 """The conformance suite in suite: its answers are those of reading.py; the cases find each mistake of
-mutants.py that changes an answer; docs/FORMAT.md names the cases of each rule; what each level of run.py compares, and
-what it does with readers that fail."""
+mutants.py that changes an answer; what each level of run.py compares, and what it does with readers that fail."""
 
 import contextlib
 import importlib
@@ -11,7 +10,6 @@ import re
 import shlex
 import shutil
 import signal
-import stat
 import subprocess
 import sys
 import time
@@ -21,16 +19,11 @@ from xml.etree import ElementTree
 import mutants
 import pytest
 from needs import leave_out, terminal
-from shared import LIMIT, ROOT, Answer, bytes_of, listed, run, said, text_of, write
-from suite import FOLDER, answer, cases, released, rules, texts, told
-
-from pages import anchors, anchors_in  # noqa: E402
+from shared import LIMIT, ROOT, Answer, bytes_of, run, said, text_of, write
+from suite import FOLDER, answer, cases, released, texts, told
 
 pytestmark = pytest.mark.slow
-RUN, FORMAT = f"{FOLDER}/run.py", "docs/FORMAT.md"
-# What follows "Cases:" in FORMAT.md: names, or a range of names.
-NAMED = re.compile(r"\*[Cc]ases\b[^`]*((?:`[\w-]+`(?: to |, and |, )?)+)")
-RANGE = re.compile(r"`refusal-(\d+)` to `refusal-(\d+)`")
+RUN = f"{FOLDER}/run.py"
 # Readers in sh, made of the program P: what each does, the level that it passes, and the rules with which it is tried.
 READERS = [
     ("refuses without a line", '[ "$1" = check ] && exec "$P" "$@" 2> /dev/null', "accept"),
@@ -113,7 +106,6 @@ SAME = {
     **dict.fromkeys(["shown", "words_on", "forms"], ("",)),
 }
 MUTANTS = [it for it in mutants.mutants() if not it.what.startswith(SAME.get(it.function, ()))]
-RULES = {it["rule"]: it for it in rules()}
 
 
 # Readers that use other statuses, or time: what each does, in sh, the words of run.py, and its status.
@@ -211,22 +203,6 @@ def test_schema() -> None:
     assert [it.message for it in validator.iter_errors(made)][:5] == [], "faults of cases.json by its schema"
     del made["rules"][0]["cases"][0]["canon"]
     assert not validator.is_valid(made), "a case without an answer"
-
-
-def test_rules_named() -> None:
-    """Docs/FORMAT.md names the cases of each rule below the heading of the rule."""
-    anchor_of = {it: rule["section"].partition("#")[2] for it, rule in RULES.items()}
-    assert sorted({*anchor_of.values()} - anchors(FORMAT, ROOT)) == [], "headings of rules"
-    parts = re.split(r"^## ", text_of(f"{ROOT}/{FORMAT}"), flags=re.M)[1:]
-    for heading, _, section in (it.partition("\n") for it in parts):
-        # Headings of the third level have rules of their own.
-        for own, _, text in [(heading, "", ""), *(it.partition("\n") for it in section.split("### ")[1:])]:
-            told = text if text else section.split("### ")[0]
-            found = {name for it in NAMED.findall(told) for name in re.findall(r"`([\w-]+)`", it)}
-            for low, high in RANGE.findall(told):
-                found |= {f"refusal-{it}" for it in range(int(low), int(high) + 1)}
-            wanted = {name for name, at in anchor_of.items() if {at} == anchors_in(f"# {own}\n")}
-            assert sorted(found) == sorted(wanted), f"cases in {FORMAT}, {own}"
 
 
 @pytest.mark.parametrize("what, script, passed", READERS, ids=[it[0] for it in READERS])
@@ -393,16 +369,6 @@ def test_limits(made: Conformance, what: str, script: str, words: str, status: i
 def test_memory(made: Conformance) -> None:
     found = made.run("--case", "first-min", "--memory", "123", made.reader("ulimit -v"))
     assert f"printed '{123 * 1024}\\n'".encode() in found.out
-
-
-def test_installed() -> None:
-    """The suite is installed as it is here."""
-    tests = f"{FOLDER}/tests"
-    below = [f"{at}/{it}" for at, _, names in os.walk(FOLDER) for it in names if not at.startswith(tests)]
-    own = {os.path.relpath(it, FOLDER): stat.S_IMODE(os.stat(it).st_mode) & 0o111 > 0 for it in below}
-    top = "suite/"
-    known = {it.removeprefix(top): mode == 0o755 for mode, it, to in listed() if it.startswith(top)}
-    assert known == own, "what is installed of suite"
 
 
 def test_batch(made: Conformance) -> None:

@@ -19,7 +19,7 @@ from collections.abc import Sequence
 
 import pytest
 from known import ROADS
-from needs import cases, leave_out, need, pass_over, passes
+from needs import cases, leave_out, need, need_here, pass_over, passes
 from shared import ROOT, run, said, write
 
 pytestmark = [pytest.mark.slow, pytest.mark.arm]
@@ -161,8 +161,7 @@ def test_preloaded(at_length: Emulated, folder: str, name: str, every: int) -> N
     """Reads and writes of one byte, and allocations that are refused, on each fifth text, since each of a command takes
     a run. For this a test preloads a library, which has to be compiled for aarch64."""
     object, functions = at_length.beside("dnorm.o"), f"{ROOT}/c/runtime-aarch64.c"
-    if not os.path.exists(object):
-        pass_over(object)
+    need_here(object)
     dynamic = compiled(f"{folder}/dynamic", [COMPILER, object, functions])
     os.mkdir("tools")
     write("tools/cc", f'#!/bin/sh\nexec {COMPILER} "$@"\n', 0o755)
@@ -171,6 +170,8 @@ def test_preloaded(at_length: Emulated, folder: str, name: str, every: int) -> N
     # The built test of the libraries is for this machine. In another folder than the repository, none is found.
     for it in ["tests", "examples/refused", "suite"]:
         shutil.copytree(f"{ROOT}/{it}", it)
+    for it in ["conftest.py", "pytest.ini"]:
+        shutil.copy(f"{ROOT}/{it}", it)
     path = f"{folder}/tools:{os.environ['PATH']}"
     words = [f"{folder}/tests/program/test_{name}.py", f"--every={every}"]
     passes(f"{folder}/tools/dnorm", *words, CI="", limit=MOST, PATH=path)
@@ -181,7 +182,7 @@ def test_library_in_c(at_length: Emulated, folder: str) -> None:
     wraps = [f"-Wl,--wrap={it}" for it in ("malloc", "realloc", "free")]
     # gcc makes a calloc, which is not wrapped, of malloc and memset.
     words = [COMPILER, "-fno-builtin-malloc", f"-I{ROOT}/c", *wraps, f"{ROOT}/c/tests/library.c"]
-    words.append(at_length.beside("lib/libdnorm.a"))
+    words.append(at_length.beside("libdnorm.a"))
     tested = [at_length.qemu, "-L", SYSTEM, compiled(f"{folder}/library", words)]
     assert run([*tested, "orders", "4"]) == said(f"{11**4} orders\n")
     number = run([*tested, "memory"])
@@ -192,12 +193,12 @@ def test_library_in_c(at_length: Emulated, folder: str) -> None:
 
 def test_library_in_python(at_length: Emulated, folder: str) -> None:
     """The library for C through ctypes, in a Python for arm64."""
-    root, library = f"{folder}/root", at_length.beside("lib/libdnorm.so.3")
+    root, library = f"{folder}/root", at_length.beside("libdnorm.so.3")
     if lack := fetched(root, f"{folder}/apt", ["python3", "python3-pytest", "python3-hypothesis"]):
         pass_over(lack)
     python = [at_length.qemu, "-L", root, f"{root}/usr/bin/python3"]
     own = {"DNORM_TESTED_LIBRARY": library, "PYTHONPATH": f"{root}/usr/lib/python3/dist-packages", "CI": ""}
-    passes(at_length.program, f"{TESTS}/library/test_library.py", python=python, limit=MOST, **own)
+    passes(at_length.program, f"{ROOT}/c/tests/test_library.py", python=python, limit=MOST, **own)
     own = {**os.environ, "PYTHONPATH": f"{ROOT}/python/src", "PYTHONDONTWRITEBYTECODE": "1", "DNORM_LIBRARY": library}
     assert run([*python, "-c", BY_PACKAGE], ROADS, env=own) == said(f"{library} 5\n")
 

@@ -5,12 +5,15 @@ the shell is bash only if a block asks for it. Then the blocks of all sections o
 one bash. A block that begins with a comment with the name of a file is written to that file first.
 
 The recipes for a file have the status that the manual says for one that is refused or unreadable. Each text in
-examples/refused/ is refused as its name says, and the section of this refusal in docs/REFUSALS.md runs it."""
+examples/refused/ is refused as its name says, and the section of this refusal in docs/REFUSALS.md runs it.
+
+docs/FORMAT.md names the cases of each rule of the conformance suite, which is installed as it is here."""
 
 import functools
 import os
 import re
 import shutil
+import stat
 import subprocess
 import sys
 from collections.abc import Iterator
@@ -22,8 +25,11 @@ from needs import leave_out, need_proc, pass_over
 from refusal_table import refusals, with_example
 from shared import LIMIT, OF_GIT, ROOT, Answer, bytes_of, links_listed, listed, make, python_with, run, said, source_of
 from shared import text_of, write
+from suite import FOLDER, rules
 
-README, REFUSALS = "README.md", "docs/REFUSALS.md"
+from pages import anchors, anchors_in  # noqa: E402
+
+README, REFUSALS, FORMAT = "README.md", "docs/REFUSALS.md", "docs/FORMAT.md"
 PAGES = [README, "docs/MANUAL.md", "docs/FILES.md", "docs/LIBRARY.md", REFUSALS]
 FENCED = re.compile(r"^```(\w*)\n((?:(?!```).*\n)*)```$", re.M)
 FILE = re.compile(r"(?:#!.*\n)?(?:#|//) ([\w-]+\.\w+)\n")
@@ -34,6 +40,9 @@ NEEDS |= {"static=dnorm": "libdnorm", "~/.local/share/doc/dnorm/c/examples/least
 # The modules of Python that a plain system may lack, by their words.
 MODULES = ["networkx", "scipy", "numpy"]
 NEEDS |= {it: it for it in MODULES}
+# What follows "Cases:" in FORMAT.md: names, or a range of names.
+NAMED = re.compile(r"\*[Cc]ases\b[^`]*((?:`[\w-]+`(?: to |, and |, )?)+)")
+RANGE = re.compile(r"`refusal-(\d+)` to `refusal-(\d+)`")
 # Where the library for C is.
 LIBRARY = f"{ROOT}/build/prefix"
 # Recipes for a file: their page and section, the beginning of the commands, the file, and the status for a file that is
@@ -223,6 +232,13 @@ def test_recipe(
         assert (ran.status, left) == (status, ["given"] if given else []), f"{given!r}: {ran.out!r}"
 
 
+def test_bad_links(folder: str) -> None:
+    """tools/pages.py names the links that lead nowhere."""
+    make({"a.md": "# A head\n[b](b.md) [up](#a-head) [c](c.md#a-head) [d](https://d.example)\n", "c.md": "# C\n"})
+    told = "a.md: links to b.md, and there is no b.md\na.md: links to c.md#a-head, and c.md has no such heading\n"
+    assert run([sys.executable, f"{ROOT}/tools/pages.py", folder]) == said(told)
+
+
 @pytest.mark.slow
 def test_installed_readme(tested: str, folder: str) -> None:
     """README.md as bin/install installs it: its commands run where it lies, by what is installed, and its links lead to
@@ -264,3 +280,29 @@ def test_refused_text(tested: str, path: str) -> None:
     section = dict(sections_of(text_of(f"{ROOT}/{REFUSALS}")))[f"{int(number)} {word}"]
     assert f"\ndnorm-explain check examples/refused/{path}\n" in section
     assert f"examples/refused/{path}" in [it for _, it, _ in listed()], "it is installed"
+
+
+def test_rules_named() -> None:
+    """Docs/FORMAT.md names the cases of each rule below the heading of the rule."""
+    anchor_of = {it["rule"]: it["section"].partition("#")[2] for it in rules()}
+    assert sorted({*anchor_of.values()} - anchors(FORMAT, ROOT)) == [], "headings of rules"
+    parts = re.split(r"^## ", text_of(f"{ROOT}/{FORMAT}"), flags=re.M)[1:]
+    for heading, _, section in (it.partition("\n") for it in parts):
+        # Headings of the third level have rules of their own.
+        for own, _, text in [(heading, "", ""), *(it.partition("\n") for it in section.split("### ")[1:])]:
+            told = text if text else section.split("### ")[0]
+            found = {name for it in NAMED.findall(told) for name in re.findall(r"`([\w-]+)`", it)}
+            for low, high in RANGE.findall(told):
+                found |= {f"refusal-{it}" for it in range(int(low), int(high) + 1)}
+            wanted = {name for name, at in anchor_of.items() if {at} == anchors_in(f"# {own}\n")}
+            assert sorted(found) == sorted(wanted), f"cases in {FORMAT}, {own}"
+
+
+def test_suite_installed() -> None:
+    """The conformance suite is installed as it is here."""
+    tests = f"{FOLDER}/tests"
+    below = [f"{at}/{it}" for at, _, names in os.walk(FOLDER) for it in names if not at.startswith(tests)]
+    own = {os.path.relpath(it, FOLDER): stat.S_IMODE(os.stat(it).st_mode) & 0o111 > 0 for it in below}
+    top = "suite/"
+    known = {it.removeprefix(top): mode == 0o755 for mode, it, to in listed() if it.startswith(top)}
+    assert known == own, "what is installed of suite"

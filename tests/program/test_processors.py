@@ -1,11 +1,10 @@
 """The program and the library for C give the same answers on the oldest processors of x86-64 as on this one, on random
 texts of some ten thousand arcs: small texts do not reach all instructions. qemu-x86_64 emulates the processors."""
 
-import os
 import random
 
 import pytest
-from needs import need, pass_over
+from needs import need, need_here
 from shared import ROOT, run, said
 
 pytestmark = pytest.mark.slow
@@ -35,8 +34,7 @@ def built(request: pytest.FixtureRequest, tested: str, tmp_path_factory: pytest.
     if request.param == "program":
         return tested
     need("c++")
-    if not os.path.exists(ARCHIVE):
-        pass_over(ARCHIVE)
+    need_here(ARCHIVE)
     made = f"{tmp_path_factory.mktemp('processors')}/library"
     words = ["c++", "-std=c++17", "-o", made, f"-I{ROOT}/build/prefix/include", f"{ROOT}/c/tests/library.cc", ARCHIVE]
     assert run(words) == said()

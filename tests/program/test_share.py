@@ -8,6 +8,7 @@ import sys
 from collections.abc import Callable
 
 import pytest
+from builds import sentences_of
 from needs import need
 from refusal_table import faults, refusals
 from shared import ROOT, Answer, run, said, text_of, write
@@ -20,9 +21,8 @@ PAGES += [f"man3/{it}.3" for it in ["dnorm.h", "dnorm_tools.h"]]
 WIDTH = 80
 COMMAND = re.compile(r"^  (\w+)  ", re.M)
 OPTION = re.compile(r"^  +(?:-\w(?: \w+)?, +)?(--[\w-]+)", re.M)
-# An example in the help, and a refusal: its number, its name and its sentence.
+# An example in the help.
 EXAMPLE = re.compile(r"^  \$ dnorm (.+)\n((?:  .+\n)+)", re.M)
-REFUSAL = re.compile(r"^ {2,3}(\d+) (\w+) {2,}(.+(?:\n {22}.+)*)$", re.M)
 # What a page has in place of a sign.
 SIGNS = {"\\-": "-", "\\(ha": "^", "\\(aq": "'", "\\e": "\\", "\\&": "", "\\fB": "", "\\fI": "", "\\fR": ""}
 
@@ -84,10 +84,17 @@ def test_pages_of_package(made: str) -> None:
         assert {*OPTION.findall(text)} == {*found}, page
 
 
-def test_refusals(help_of: Callable[[str], str]) -> None:
+def test_page_of_header(made: str) -> None:
+    """The page has each function of the library: in its name, with what it takes, and with what it does."""
+    page = text_of(f"{made}/share/man/{PAGES[4]}")
+    parts = [page.partition(f".SH {it}\n")[2].partition(".SH ")[0] for it in ("NAME", "SYNOPSIS", "FUNCTIONS")]
+    for it in re.findall(r"^ +(dnorm_\w+);$", text_of(f"{ROOT}/c/dnorm.map"), re.M):
+        assert [bool(re.search(rf"\b{it}\b", part)) for part in parts] == [True] * 3, it
+
+
+def test_refusals(tested: str) -> None:
     """The help has the refusals of the table, and all other lists of them are as in the table."""
-    told = [(int(number), name, " ".join(it.split())) for number, name, it in REFUSAL.findall(help_of("help"))]
-    assert told == [(it.number, it.name, it.sentence) for it in refusals()]
+    assert [*sentences_of(tested).items()] == [(it.number, f"{it.name}: {it.sentence}") for it in refusals()]
     assert run([sys.executable, f"{ROOT}/tools/lists"]) == said()
 
 
@@ -121,7 +128,7 @@ def test_rule(folder: str) -> None:
     assert run(["copy/tools/lists", "--write"]) == said(gap, status=1)
     write("copy/python/src/dnorm/refusals.json", f"{before}{ROW.format(number)}{NEXT}{after}")
     found = run(["copy/tools/lists", "--write"])
-    assert (found.err, found.status) == (b"", 1)
+    assert (found.err, found.status, found.out.count(b": its order of checking is ")) == (b"", 1, 2)
     assert {it.partition(":")[0] for it in found.out.decode().splitlines()} == BY_HAND
     assert run(["copy/tools/lists"]) == found
 

@@ -8,6 +8,7 @@ prints the version of a kit stands for one."""
 import contextlib
 import os
 import re
+import runpy
 import shutil
 import signal
 import subprocess
@@ -26,7 +27,7 @@ pytestmark = pytest.mark.slow
 FILES = ["bin/dnorm", "c/put", "tools/kit.py", "tools/prover.py", "tools/released", "tools/usage.py", "tools/usage.sh"]
 FILES += [f"c/dnorm{it}" for it in [".h", "_codes.h", "_tools.h", ".hpp", ".pc", ".map"]]
 FILES += ["c/free.c", "c/dnorm-config.cmake", "c/dnorm-config-version.cmake", "crates/dn_command/src/help.rt"]
-FILES += ["Makefile"]
+FILES += ["Makefile", "packaging/third-party"]
 LIBRARIES = ["libdnorm.a", "libdnorm.so.3"]
 SOURCES = ["crates", "crates.txt", "c/dnorm.map", "c/free.c"]
 # A path of commands without `rt`, and what a kit prints of itself.
@@ -199,6 +200,65 @@ def test_proved_once(clone: Clone) -> None:
         assert (found.status, builds) == (0, wants), (checked, change)
 
 
+def test_rules(clone: Clone) -> None:
+    """What make proves a crate of: its files, its folders, so that a new file counts, the crates below, and the kit."""
+    found = clone.run("tools/prover.py", "rules", path=f"{clone.folder}/front:{WITHOUT_RT}")
+    place, ready = "crates/dnorm/out/rlib", f"{clone.folder}/kit/WHAT".replace(" ", "\\ ")
+    first = f"{place}/dn_num.proved: crates/dn_num/src crates/dn_num/src/lib.rt {ready}\n"
+    second = f"{place}/dnorm.proved: {place}/dn_num.proved crates/dnorm/src crates/dnorm/src/lib.rt {ready}\n"
+    assert found == said(first + second)
+
+
+def test_third_party(clone: Clone) -> None:
+    """packaging/third-party names a library of the kit whose notice is missing."""
+    shutil.rmtree(f"{clone.folder}/build")
+    made = {"crates.txt": "dn_num: itoa\n", "kit/rlibs/itoa.rlib/format": "", "kit/rattle/itoa/LICENSE": "terms\n"}
+    make({f"{clone.folder}/{it}": text for it, text in {**made, "docs/PROVED.md": ""}.items()})
+    told = "THIRD-PARTY lacks the notice of itoa: packaging/third-party --write adds it\n"
+    assert clone.run("packaging/third-party", path=f"{clone.folder}/front:{WITHOUT_RT}") == said(told, status=1)
+
+
+def test_words_of_make() -> None:
+    """make passes on a prefix, and words for pytest."""
+    for words, end in [("install PREFIX=/x", b"bin/install /x\n"), ("test TESTS=--x", b" -rfEs --x\n")]:
+        found = run(["make", "-n", "-C", ROOT, "--no-print-directory", *words.split()])
+        assert (found.out.endswith(end), found.status) == (True, 0), found
+
+
+def test_setup(folder: str) -> None:
+    """tools/setup installs what is missing, and fails as long as something is."""
+    last, *here = text_of(f"{ROOT}/tools/setup").partition("packages=(")[2].partition(")")[0].split()
+    make({"bin/sudo": '#!/bin/sh\nshift 2\nexec "$@"\n', "bin/dpkg-query": "#!/bin/sh\ncat here\n"}, 0o755)
+    make({"bin/apt-get": '#!/bin/sh\necho "$@" >> called\n'}, 0o755)
+    own = {**os.environ, "PATH": f"{folder}/bin:{os.environ['PATH']}"}
+    for installed, status in [(here, 1), ([last, *here], 0)]:
+        write("here", "".join(f"installed {it}\n" for it in installed))
+        assert run([f"{ROOT}/tools/setup"], env=own).status == status
+    assert {it.partition(" install ")[2] for it in text_of("called").splitlines()} == {"", last}
+
+
+def test_figures(folder: str) -> None:
+    """bench/figures names a table that its file does not give."""
+    for it in ["bench", "docs/img", "tools"]:
+        shutil.copytree(f"{ROOT}/{it}", it, ignore=shutil.ignore_patterns("__pycache__"))
+    write("README.md", text_of(f"{ROOT}/README.md"))
+    assert run(["bench/figures"]) == said()
+    write("README.md", text_of("README.md").replace("| ns an arc |", "| ns |"))
+    assert run(["bench/figures"]) == said("README.md has not the table that bench/figures --write makes\n", status=1)
+
+
+def test_lint(folder: str, capfd: pytest.CaptureFixture[str], monkeypatch: pytest.MonkeyPatch) -> None:
+    """What no tool finds in scripts and sources."""
+    make({"a.sh": f"#!/bin/sh\n#{'x' * 120}\n", "b": "#!/usr/bin/perl\n", "c.sh": f"rt --allow-{'holes'}\n"})
+    make({"d": "#!/usr/bin/env python3\ndef f() -> None: ...\n", "crates/e/src/lib.rt": f"/{'/' * 120}\n"})
+    lint = runpy.run_path(f"{ROOT}/tools/lint")
+    for it in ["scripts", "files"]:
+        monkeypatch.setitem(lint[it].__globals__, "ROOT", folder)
+    lint["no_tool_finds"](tally := lint["Tally"](), lint["scripts"]())
+    found = re.findall(r"'([^']+)'", capfd.readouterr().out)
+    assert (found, tally.failed) == (["a.sh:2", "crates/e/src/lib.rt:1", "b", "d: f", "c.sh"], 4)
+
+
 def test_library(clone: Clone) -> None:
     """c/put takes what is built, else what is released for this processor, else it compiles the released C file."""
     to = f"{clone.folder}/prefix"
@@ -354,18 +414,26 @@ def test_ended_check(folder: str, heeded: None, stays: str, number: int) -> None
                 os.kill(int(it), signal.SIGKILL)
 
 
-@pytest.mark.parametrize("failing", ["", "bench/figures", "bin/rt", "tools/wrong-bodies"])
-def test_counts_of_check(folder: str, heeded: None, failing: str) -> None:
+# What fails a part, in place of its count; and how many checks of ./check then pass and fail.
+FAILS = "0 passed, 1 failed'; exit 1", 27, 9
+FAILING = [("", "1 passed, 0 failed'", 28, 8), *((it, *FAILS) for it in ["bench/figures", "tools/wrong-bodies"])]
+FAILING += [("bin/rt", *FAILS), ("tools/lint", "1 passed, 0 failed'; exit 3", 28, 9)]
+FAILING += [("bin/rt", "refused, as it must be (only because a proof file names it)\n1 passed, 0 failed'", 27, 9)]
+
+
+@pytest.mark.parametrize("failing, count, passed, failed", FAILING)
+def test_counts_of_check(folder: str, heeded: None, failing: str, count: str, passed: int, failed: int) -> None:
     """What ./check counts, of its own scripts and of pytest, and its status."""
     own = scratch_check(folder)
     make({"bin/make": STANDS.replace("1 passed, 0 failed", "1 failed, 5 passed, 2 skipped, 1 error in 0.1s")}, 0o755)
     if failing:
-        write(failing, STANDS.replace("1 passed, 0 failed'", "0 passed, 1 failed'; exit 1"))
+        write(failing, STANDS.replace("1 passed, 0 failed'", count))
     found = run(["./check"], env=own)
-    count = f"{28 - bool(failing)} passed, {8 + bool(failing)} failed, 8 skipped"
-    assert (found.out.decode().splitlines()[-1], found.status) == (count, 1), found
+    last = f"{passed} passed, {failed} failed, 8 skipped"
+    assert (found.out.decode().splitlines()[-1], found.status) == (last, 1), found
     told = [it for it in found.out.decode().splitlines() if it.endswith(" failed:")]
-    assert any(it.startswith(failing.removeprefix("bin/")) for it in told) or not failing, told
+    part = "shows_contracts" if "as it must be" in count else failing.removeprefix("bin/")
+    assert any(it.startswith(part) for it in told) or not failing, told
     assert os.listdir("temporary") == []
 
 

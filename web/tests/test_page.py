@@ -18,7 +18,7 @@ from test_web import KINDS
 from texts import lines_of, made, spelled, spoilt
 
 pytestmark = [pytest.mark.slow, pytest.mark.browser, pytest.mark.xdist_group("page")]
-PAGES = [f"{ROOT}/build/dnorm.html", f"{ROOT}/released/dnorm.html"]
+PAGES = [f"{ROOT}/{it}/dnorm.html" for it in ("web", "build", "released")]
 IS_DONE = "return element('working').hidden && element('answers').children.length > 0"
 GIVE = "start(arguments[0].map(([name, text]) => new File([text], name)))"
 DROP = """const given = new DataTransfer();
