@@ -190,7 +190,12 @@ def test_proved_once(clone: Clone) -> None:
     after a change of one."""
     env = {**os.environ, "PATH": f"{clone.folder}/front:{WITHOUT_RT}"}
     made, source = f"{clone.folder}/crates/dnorm/out/rlib/dnorm.proved", f"{clone.folder}/crates/dn_num/src/lib.rt"
-    cases = [("", "", [True, True]), ("1", "", [False, True]), ("1", made, [False, False]), ("1", source, [False, True])]
+    cases = [
+        ("", "", [True, True]),
+        ("1", "", [False, True]),
+        ("1", made, [False, False]),
+        ("1", source, [False, True]),
+    ]
     for after, (checked, change, wants) in enumerate(cases):
         if change:
             make({change: ""})
