@@ -5,8 +5,10 @@ each refusal once."""
 import gzip
 import os
 import re
+import shlex
 import shutil
 
+import pytest
 from known import COSTS, FLOWS, ROADS, ROADS_CANON
 from shared import bytes_of, make, run, said, write
 from test_calls import COMPRESS, READS, python
@@ -127,6 +129,38 @@ def test_own_names(tested: str) -> None:
     write("killed", "#!/bin/sh\nkill -9 $$\n", 0o755)
     code = "from dnorm.commands import explain; explain.find_program = lambda: './killed'; "
     assert python(f"{code}raise SystemExit(explain.main(['check', 'a.gr']))").status == 137, "a signal ended dnorm"
+
+
+def test_explained() -> None:
+    """`explain` takes a line for a refusal only if it has the form of those that dnorm prints."""
+    refusals = ["x:1: 1 BadLine", "x:end: 20 TooFewLines", "x: 34 CountTooLarge", "s.ss: 35 NotInGraph 7"]
+    failures = ["dnorm: 30 Memory", "-: 31 Read", "out: 33 Write"]
+    others = ["m.c:10: 5 errors", "m.c:10: 30 errors", "m.c: 31 lines", "x: 33 Write", "x: 1 BadLine", "x:0: 1 BadLine"]
+    others += ["x:1: 22 BadLine", "x:1: 1 BadLine 7", "x: 34 CountTooLarge 7", "x: 35 NotInGraph", "x: 35 NotInGraph 0"]
+    others += [f"x:{9 * '9999'}: 1 BadLine", "x:-1: 1 BadLine", "x:1: 01 BadLine", "x:1:1 BadLine", "x: 31 Read (gone)"]
+    for lines, status in [(refusals, 2), (failures, 4), (others, 0)]:
+        for it in lines:
+            found = module("explain", given=f"{it}\n".encode())
+            assert (found.status, found.out.count(b"\n") > 1) == (status, status != 0), it
+            assert found.out.startswith(f"{it}\n".encode()) and not found.err, it
+
+
+@pytest.mark.parametrize(
+    "does, what",
+    [
+        ("exit 9", "did not answer as it should (its status was 9, and it printed '')"),
+        ("kill -9 $$", "was ended by signal 9 (SIGKILL)"),
+    ],
+)
+def test_broken_off(tested: str, does: str, what: str) -> None:
+    """`parts` names the program once if it breaks off, at the head of a text as in a part."""
+    write("a.gr", ROADS)
+    for runs, before in [(0, ""), (1, "a part failed: ")]:
+        write("left", runs * "x")
+        code = f"if [ $1 = canon ]; then [ -s left ] || {does}; : > left; fi"
+        write("breaks", f'#!/bin/bash\n{code}\nexec {shlex.quote(tested)} "$@"\n', 0o755)
+        line = f"canon-in-parts: {before}dnorm {what}\n"
+        prints("parts --jobs 1 --lines 3 --program ./breaks a.gr", "", line, 4)
 
 
 def test_once() -> None:
