@@ -13,7 +13,7 @@ from xml.etree import ElementTree
 
 import pytest
 from known import COSTS, ROADS
-from needs import leave_out
+from needs import leave_out, need_here
 from shared import ROOT, Answer, listed, make, run, said, text_of, write
 from test_calls import READS
 from test_folders import fields_of_hook, module
@@ -85,6 +85,7 @@ def test_workflow(tested: str, c_library: str) -> None:
         assert dict(VALUE.findall(text_of(WORKFLOW)))["VERSION"] == version, "the release that it fetches"
     if not shutil.which("curl"):
         leave_out("curl")
+    need_here("packaging/", "web/")
     make_release(tested, c_library)
     os.makedirs("texts/below")
     write("texts/below/roads.gr", ROADS)
@@ -143,10 +144,6 @@ def test_summary(monkeypatch: pytest.MonkeyPatch) -> None:
         "", "| Group | Files | Names |", "| --- | --- | --- |", "| changed | 1 | m/b.gr |",
         "| new | 2 | m/d.gr, m/e.min |", "| gone | 1 | m/x.gr |", "| one problem | 2 | m/b.gr, m/d.gr |",
     ]  # fmt: skip
-    assert (
-        f"{html.escape(hint)}; Scale to" in module("look", "m").out.decode()
-    ), "the page has the hint in one line, too"
-    assert module("look", "m").out.count(b"<details open>") == 3, "up to three causes are open"
     assert module("look", "--markdown", "m/b.gr", "m").status == 3, "no summary takes the place of a text"
     monkeypatch.setattr(look, "FILES", 1)
     monkeypatch.setattr(look, "LISTED", 2)
@@ -155,6 +152,10 @@ def test_summary(monkeypatch: pytest.MonkeyPatch) -> None:
     assert (one[:12], more, group) == ("| m/c.gr.gz ", "And 1 more.", "| one problem | 2 | m/b.gr, .. |"), group
     files: Any = look.table_of(found_now, [], None)["files"]
     assert files["kind"].count(" ") == len(found_now.records) - 1, "the page has a kind for each file"
+    need_here("web/")
+    page = module("look", "m").out.decode()
+    assert f"{html.escape(hint)}; Scale to" in page, "the page has the hint in one line, too"
+    assert page.count("<details open>") == 3, "up to three causes are open"
 
 
 def test_pre_commit() -> None:

@@ -5,12 +5,15 @@ each refusal once."""
 import gzip
 import os
 import re
+import shlex
 import shutil
 
+import pytest
 from known import COSTS, FLOWS, ROADS, ROADS_CANON
+from needs import need_here
 from shared import bytes_of, make, run, said, write
 from test_calls import COMPRESS, READS, python
-from test_folders import LETTERS, SENTENCES, X, by_shell, hidden, module, on_terminal, prints
+from test_folders import LETTERS, SENTENCES, X, by_shell, hidden, make_clone, module, on_terminal, prints
 from test_manifests import ABOUT
 
 import dnorm
@@ -68,7 +71,8 @@ def test_standard_streams(tested: str) -> None:
     sums = module("manifest", "a.gr").out
     assert module("manifest", "--output", "-", "a.gr").out == sums
     prints("manifest --verify -", "a.gr: same\n", "1 the same, 0 different, 0 refused, 0 failed\n", given=sums)
-    assert b"a.gr is now ./b.gr" in by_shell("mkdir s; mv a.gr s/b.gr; cd s; dnorm look --since - .", given=sums).out
+    os.mkdir("s")
+    os.rename("a.gr", "s/b.gr")
     prints("check --files-from - bad.gr -q", "bad.gr:2: 13 NodeOutOfRange\n", f"1{count[1:]}", 2, given=b"s/b.gr\n")
     report = module("check", "--junit", "-", "s/b.gr").out
     assert (report[:5], report.count(b"<testcase")) == (b"<?xml", 1)
@@ -76,6 +80,8 @@ def test_standard_streams(tested: str) -> None:
     assert b"<system-out>its ending is that of max</system-out>" in module("check", "--junit", "-", "e.max").out
     prints("compare - s/b.gr", "same\npairs: 0 only left, 0 only right, 5 in both, 0 of them different\n", given=ROADS)
     prints("compare - s/b.gr", "", f"-:1: 1 BadLine\n{X}", 2, given=b"x\n")
+    need_here("web/")
+    assert b"a.gr is now ./b.gr" in module("look", "--since", "-", ".", cwd="s", given=sums).out
 
 
 def test_words() -> None:
@@ -108,13 +114,12 @@ def test_words() -> None:
 
 def test_own_names(tested: str) -> None:
     """`explain` and `parts` are dnorm-explain and canon-in-parts."""
-    make({"a.gr": ROADS, "bin/dnorm": b""})
-    os.remove("bin/dnorm")
-    os.symlink(tested, "bin/dnorm")
-    own = f"PATH={os.getcwd()}/bin:$PATH dnorm"
+    write("a.gr", ROADS)
+    package = f"PYTHONPATH={make_clone('build', tested)}/python/src"
+    own = f"{package} dnorm"
     cause = f"-:1: 1 BadLine\n{X}"
     assert by_shell(f"{own} explain check -", given=b"x\n") == said("", cause, 2)
-    long = by_shell(f"(echo x; yes) | PATH={os.getcwd()}/bin:$PATH timeout 20 $PYTHON -m dnorm explain check -")
+    long = by_shell(f"(echo x; yes) | {package} timeout 20 $PYTHON -m dnorm explain check -")
     assert (long.err.decode().replace(X, ""), long.status) == ("-:1: 1 BadLine\n", 2), "a stream without an end"
     assert by_shell(f"{own} explain check - < a.gr") == said("accepted sp\nforms none\n")
     assert (
@@ -127,6 +132,38 @@ def test_own_names(tested: str) -> None:
     write("killed", "#!/bin/sh\nkill -9 $$\n", 0o755)
     code = "from dnorm.commands import explain; explain.find_program = lambda: './killed'; "
     assert python(f"{code}raise SystemExit(explain.main(['check', 'a.gr']))").status == 137, "a signal ended dnorm"
+
+
+def test_explained() -> None:
+    """`explain` takes a line for a refusal only if it has the form of those that dnorm prints."""
+    refusals = ["x:1: 1 BadLine", "x:end: 20 TooFewLines", "x: 34 CountTooLarge", "s.ss: 35 NotInGraph 7"]
+    failures = ["dnorm: 30 Memory", "-: 31 Read", "out: 33 Write"]
+    others = ["m.c:10: 5 errors", "m.c:10: 30 errors", "m.c: 31 lines", "x: 33 Write", "x: 1 BadLine", "x:0: 1 BadLine"]
+    others += ["x:1: 22 BadLine", "x:1: 1 BadLine 7", "x: 34 CountTooLarge 7", "x: 35 NotInGraph", "x: 35 NotInGraph 0"]
+    others += [f"x:{9 * '9999'}: 1 BadLine", "x:-1: 1 BadLine", "x:1: 01 BadLine", "x:1:1 BadLine", "x: 31 Read (gone)"]
+    for lines, status in [(refusals, 2), (failures, 4), (others, 0)]:
+        for it in lines:
+            found = module("explain", given=f"{it}\n".encode())
+            assert (found.status, found.out.count(b"\n") > 1) == (status, status != 0), it
+            assert found.out.startswith(f"{it}\n".encode()) and not found.err, it
+
+
+@pytest.mark.parametrize(
+    "does, what",
+    [
+        ("exit 9", "did not answer as it should (its status was 9, and it printed '')"),
+        ("kill -9 $$", "was ended by signal 9 (SIGKILL)"),
+    ],
+)
+def test_broken_off(tested: str, does: str, what: str) -> None:
+    """`parts` names the program once if it breaks off, at the head of a text as in a part."""
+    write("a.gr", ROADS)
+    for runs, before in [(0, ""), (1, "a part failed: ")]:
+        write("left", runs * "x")
+        code = f"if [ $1 = canon ]; then [ -s left ] || {does}; : > left; fi"
+        write("breaks", f'#!/bin/bash\n{code}\nexec {shlex.quote(tested)} "$@"\n', 0o755)
+        line = f"canon-in-parts: {before}dnorm {what}\n"
+        prints("parts --jobs 1 --lines 3 --program ./breaks a.gr", "", line, 4)
 
 
 def test_once() -> None:
@@ -185,10 +222,13 @@ def test_one_place() -> None:
     make({"maps/a.gr": ROADS, "maps/b.min": COSTS})
     module("manifest", "--output", "list", "maps")
     os.symlink("maps", "link")
-    for path in ["./maps", os.path.abspath("maps"), "maps/../maps", "link"]:
+    paths = ["./maps", os.path.abspath("maps"), "maps/../maps", "link"]
+    for path in paths:
+        prints(f"manifest --verify list -q {path}", "", "2 the same, 0 different, 0 refused, 0 failed\n")
+    need_here("web/")
+    for path in paths:
         page = module("look", "--since", "list", path).out.decode()
         assert "is now" not in page and ">the same 2<" in page, path
-        prints(f"manifest --verify list -q {path}", "", "2 the same, 0 different, 0 refused, 0 failed\n")
 
 
 def test_groups() -> None:
@@ -197,6 +237,7 @@ def test_groups() -> None:
     os.symlink("z.gr", "pool/a.gr")
     count = "5 accepted, 0 refused, 0 failed, 2 groups, 1 link\n"
     prints("same pool", "pool/m.gr\npool/z.gr\n\npool/n.min\npool/o.min\n", count)
+    need_here("web/")
     assert module("look", "pool").out.count(b"<details><summary>pool/") == 2
 
 

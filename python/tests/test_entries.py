@@ -10,8 +10,8 @@ import pytest
 from known import ROADS
 from needs import need
 from shared import OF_GIT, ROOT, Answer, run, text_of, write
-from test_calls import PACKAGE, READS, python
-from test_folders import ENVIRONMENT
+from test_calls import READS, python
+from test_folders import ENVIRONMENT, make_clone
 
 pytestmark = READS
 BAD = b"p sp 2 1\na 1 3 5\n"
@@ -66,38 +66,40 @@ def is_refused(what: str, found: Answer) -> None:
 
 def environment(folders: str = "{}") -> dict[str, str]:
     """Returns an environment in which lists of folders have this form."""
-    # Without $DNORM_LIBRARY, the package looks for its library.
+    # Without $DNORM_LIBRARY, the package looks for its library, which the clone has.
     others = {it: value for it, value in os.environ.items() if it not in ("PYTHONPATH", "DNORM_LIBRARY")}
     lists = {"PATH": folders.format(os.environ["PATH"]), "PYTHONPATH": folders.format("/none")}
     return {**others, **lists, "PYTHONDONTWRITEBYTECODE": "1"}
 
 
 @pytest.mark.parametrize("folders", LISTS)
-def test_scripts(folders: str) -> None:
+def test_scripts(tested: str, folders: str) -> None:
     """The scripts, where $PATH and $PYTHONPATH name the current folder, too."""
+    clone = make_clone("build", tested)
     make_traps(imported(*COMMANDS) | {*OPTIONAL})
     own = environment(folders)
-    rows = [[f"{ROOT}/bin/dnorm-files", "check", "."], [f"{ROOT}/python/ci/check-files", "bad.gr"]]
-    rows += [[f"{ROOT}/bin/dnorm-files", it, "bad.gr"] for it in ("manifest", "same", "list")]
+    rows = [[f"{clone}/bin/dnorm-files", "check", "."], [f"{clone}/python/ci/check-files", "bad.gr"]]
+    rows += [[f"{clone}/bin/dnorm-files", it, "bad.gr"] for it in ("manifest", "same", "list")]
     rows += [
-        [f"{ROOT}/bin/dnorm-files", "compare", "bad.gr", "bad.gr"],
-        [f"{ROOT}/bin/dnorm-explain", "check", "bad.gr"],
+        [f"{clone}/bin/dnorm-files", "compare", "bad.gr", "bad.gr"],
+        [f"{clone}/bin/dnorm-explain", "check", "bad.gr"],
     ]
     for words in rows:
         is_refused(words[0], run(words, env=own))
-    refusal = run([f"{ROOT}/bin/dnorm-explain"], REFUSED.encode(), env=own)
+    refusal = run([f"{clone}/bin/dnorm-explain"], REFUSED.encode(), env=own)
     assert (text_of("../ran"), b"line 2: a 1 3 5" in refusal.out) == ("", True), "dnorm-explain of what dnorm printed"
 
 
 def test_python_scripts(tested: str) -> None:
     """The scripts in Python, with modules in the current folder."""
+    clone = make_clone("build", tested)
     make_traps(imported(*COMMANDS, "json", "xml.etree.ElementTree") | {*OPTIONAL})
     own = environment()
-    given = run([f"{ROOT}/bin/canon-in-parts", "bad.gr"], env=own)
+    given = run([f"{clone}/bin/canon-in-parts", "bad.gr"], env=own)
     assert (text_of("../ran"), given.out, given.status) == ("", b"", 2), "canon-in-parts"
     given = run([f"{ROOT}/suite/run.py", "--level", "accept", "--rule", "BadLine", tested], env=own)
     assert text_of("../ran") == "", "the conformance suite"
-    own["PYTHONPATH"] = PACKAGE
+    own["PYTHONPATH"] = f"{clone}/python/src"
     script = "import sys; sys.argv[0] = 'dnorm-files'; from dnorm.__main__ import main; sys.exit(main())"
     write("../dnorm-files", f"#!{sys.executable}\n{script}\n")
     is_refused("the script of pip", run([sys.executable, "../dnorm-files", "check", "bad.gr"], env=own))
@@ -109,8 +111,9 @@ def test_module(words: list[str]) -> None:
     if words[0] == "-P" and sys.version_info < (3, 11):
         need("Python 3.11")
     before = set() if words[0] == "-P" else imported("runpy", "pkgutil")
+    clone = make_clone("build")
     make_traps((imported(*COMMANDS) | {*OPTIONAL}) - before)
-    own = {**environment(), "PYTHONPATH": PACKAGE}
+    own = {**environment(), "PYTHONPATH": f"{clone}/python/src"}
     is_refused("python3 -m dnorm", run([sys.executable, *words, "check", "."], env=own))
 
 
@@ -134,14 +137,15 @@ def test_module_beside() -> None:
 def test_git(folders: str) -> None:
     """The hook for git, in a repository with such files."""
     need("git")
+    clone = make_clone("build")
     make_traps(imported(*COMMANDS) | {*OPTIONAL})
     os.mkdir("../bin")
-    os.symlink(f"{ROOT}/bin/dnorm-files", "../bin/dnorm-files")
+    os.symlink(f"{clone}/bin/dnorm-files", "../bin/dnorm-files")
     git = shutil.which("git") or ""
     own = environment() | OF_GIT
     own["PATH"] = folders.format(f"{os.path.abspath('../bin')}:{os.environ['PATH']}")
     subprocess.run([git, "init", "-q"], check=True, env=own)
-    shutil.copy(f"{ROOT}/python/git/pre-commit", ".git/hooks/pre-commit")
+    shutil.copy(f"{clone}/python/git/pre-commit", ".git/hooks/pre-commit")
     subprocess.run([git, "add", "."], check=True, env=own)
     is_refused("the hook", run([git, "commit", "-q", "-m", "x"], env=own))
     write("bad.gr", ROADS)

@@ -10,6 +10,7 @@ import io
 import json
 import os
 import re
+import shutil
 import signal
 import socket
 import subprocess
@@ -20,7 +21,7 @@ from xml.etree import ElementTree
 
 import pytest
 from known import COSTS, COSTS_TWO, ROADS, ROADS_CANON
-from needs import terminal
+from needs import need_here, terminal
 from shared import IN_A_WAIT, LIMIT, ROOT, Answer, bytes_of, make, run, said, text_of, write
 from test_calls import COMPRESS, PACKAGE, READS, python, standing_in
 
@@ -36,6 +37,7 @@ FIELD = re.compile(r"^[- ] (\w+): (?:>-\n((?: {4}.*\n)+)|(.*)$)", re.M)
 
 def fields_of_hook() -> dict[str, str]:
     """Returns the fields of the hook for pre-commit. One that has several lines is joined by blanks."""
+    need_here("./.pre-commit-hooks.yaml")
     found = FIELD.findall(text_of(f"{ROOT}/.pre-commit-hooks.yaml"))
     return {name: value.strip("'") or " ".join(lines.split()) for name, lines, value in found}
 
@@ -43,6 +45,18 @@ def fields_of_hook() -> dict[str, str]:
 def module(*words: str | bytes, **more: Any) -> Answer:
     """Runs `python3 -m dnorm` with these arguments."""
     return run([*MODULE, *words], env={**os.environ, **ENVIRONMENT}, **more)
+
+
+def make_clone(place: str, program: str = "") -> str:
+    """Makes the folder `clone` with the commands and the package of this repository, and with the library and perhaps a
+    program in this folder of it. Returns its path."""
+    for it in ["bin", "python"]:
+        shutil.copytree(f"{ROOT}/{it}", f"clone/{it}", ignore=shutil.ignore_patterns("__pycache__", "tests"))
+    os.makedirs(f"clone/{place}")
+    shutil.copy(os.environ["DNORM_LIBRARY"], f"clone/{place}")
+    if program:
+        os.symlink(program, f"clone/{place}/dnorm")
+    return os.path.abspath("clone")
 
 
 def prints(words: str | list[str], out: str, err: str = "", status: int = 0, **more: Any) -> None:
@@ -250,9 +264,12 @@ def test_bounds(folder: str, words: str) -> None:
         os.symlink(to.format(folder), f"set/below/{name}")
     os.chdir("set/below")
     named = sorted(LEAD_OUT) + sorted(LEAD_IN) + ["v.ss", "w.ss", "out.gr", "own.gr", "sub/x.gr", "away/beside.gr"]
-    given = [f"{ROOT}/{fields_of_hook()['entry']}", *named]
-    own = {**os.environ, **ENVIRONMENT}
-    found = run(given, env=own) if words == "by pre-commit" else module(*words.split(), ".")
+    if words == "look":
+        need_here("web/")
+    if words == "by pre-commit":
+        found = run([f"{ROOT}/{fields_of_hook()['entry']}", *named], env={**os.environ, **ENVIRONMENT})
+    else:
+        found = module(*words.split(), ".")
     out = (found.out + found.err).decode()
     assert "undisclosed" not in out and "PATH=" not in out and found.status == 4, out
     if words != "look":

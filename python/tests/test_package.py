@@ -9,10 +9,10 @@ import sys
 
 import pytest
 from known import ROADS
-from needs import leave_out, pass_over
+from needs import leave_out, need_here, pass_over
 from shared import ROOT, python_with, run, said, text_of, write
 from test_calls import PACKAGE, READS, python
-from test_folders import ENVIRONMENT, module
+from test_folders import ENVIRONMENT, make_clone, module
 
 import dnorm
 
@@ -72,13 +72,11 @@ def test_python(name: str) -> None:
 
 
 @pytest.mark.parametrize("place", ["build", f"released/{os.uname().machine}"])
-def test_clone(c_library: str, place: str) -> None:
+def test_clone(place: str) -> None:
     """dnorm-files of a clone reads by the library that is built there, or else released, and writes nothing there."""
-    for it in ["python/src", "bin"]:
-        shutil.copytree(f"{ROOT}/{it}", f"clone/{it}", ignore=shutil.ignore_patterns("__pycache__"))
-    os.makedirs(f"clone/{place}")
-    shutil.copy(f"{c_library}/lib/libdnorm.so.3", f"clone/{place}")
-    environment = {it: value for it, value in os.environ.items() if it != "DNORM_LIBRARY"}
+    make_clone(place)
+    dropped = ("DNORM_LIBRARY", "PYTHONDONTWRITEBYTECODE")
+    environment = {it: value for it, value in os.environ.items() if it not in dropped}
     files = [f"{ROOT}/examples/{it}" for it in ("roads.gr", "flow.min")]
     before = sorted(os.walk("clone"))
     assert run(["clone/bin/dnorm-files", "check", "-q", *files], env=environment).status == 0
@@ -127,6 +125,7 @@ def test_lacking() -> None:
 
 def test_source() -> None:
     """What setuptools builds from the files of the source distribution reads texts."""
+    need_here("released/c/")
     by = python_with("setuptools") or leave_out("setuptools")
     shutil.copytree(f"{ROOT}/python", "it", ignore=shutil.ignore_patterns("__pycache__"))
     shutil.copytree(f"{ROOT}/released/c", "it/c")
@@ -159,7 +158,6 @@ def test_commands() -> None:
 
 def test_page() -> None:
     """The help names the page that describes the commands, where it is."""
-    assert f"\n{ROOT}/docs/FILES.md describes the commands.\n" in module("--help").out.decode()
     for package, place in [
         ("lib/python3/dist-packages/dnorm", "share/doc/dnorm/docs/FILES.md"),
         ("share/dnorm/python/dnorm", "share/doc/dnorm/docs/FILES.md"),
@@ -176,6 +174,8 @@ def test_page() -> None:
         own = {**os.environ, **ENVIRONMENT, "PYTHONPATH": os.path.dirname(os.path.abspath(f"usr/{package}"))}
         found = run([sys.executable, "-m", "dnorm", "--help"], env=own).out.decode()
         assert f"\n{wanted} describes the commands.\n" in found, package
+    need_here("docs/")
+    assert f"\n{ROOT}/docs/FILES.md describes the commands.\n" in module("--help").out.decode()
 
 
 @pytest.mark.parametrize("name", ["dnorm-files", "dnorm-explain", "canon-in-parts"])

@@ -114,18 +114,6 @@ def test_forms(stand_in: str) -> None:
     assert told(lambda: dnorm.check_folder("one", timeout=-1)).startswith("ValueError: timeout is at least 0 ")
 
 
-def test_catalogue() -> None:
-    """bench/catalogue has a row for each file, with its checksum or its refusal."""
-    make({"it/a|b.gr": ROADS, "it/x.gr": b"x\n"})
-    ran = run([f"{ROOT}/bench/catalogue", "it"])
-    head, _, *rows = ran.out.decode().splitlines()
-    assert (head[:8], head[-20:], ran.status) == ("2 files ", ": 1 accepted, 1 not.", 2), head
-    assert rows[2:] == [
-        f"| it/a\\|b.gr | sp | 3 | 7 | 5 | `{dnorm.checksum(ROADS)}` |",
-        "| it/x.gr |  |  |  |  | 1: 1 BadLine |",
-    ]
-
-
 def plain(record: dict[str, Any]) -> dict[str, Any]:
     """Returns a record as JSON has it, without its time."""
     again: dict[str, Any] = json.loads(json.dumps({**record, "seconds": 0}))

@@ -6,6 +6,7 @@ All of this happens in scratch repositories with crates of one line and objects 
 prints the version of a kit stands for one."""
 
 import contextlib
+import hashlib
 import os
 import re
 import runpy
@@ -190,7 +191,12 @@ def test_proved_once(clone: Clone) -> None:
     after a change of one."""
     env = {**os.environ, "PATH": f"{clone.folder}/front:{WITHOUT_RT}"}
     made, source = f"{clone.folder}/crates/dnorm/out/rlib/dnorm.proved", f"{clone.folder}/crates/dn_num/src/lib.rt"
-    cases = [("", "", [True, True]), ("1", "", [False, True]), ("1", made, [False, False]), ("1", source, [False, True])]
+    cases = [
+        ("", "", [True, True]),
+        ("1", "", [False, True]),
+        ("1", made, [False, False]),
+        ("1", source, [False, True]),
+    ]
     for after, (checked, change, wants) in enumerate(cases):
         if change:
             make({change: ""})
@@ -245,6 +251,19 @@ def test_figures(folder: str) -> None:
     assert run(["bench/figures"]) == said()
     write("README.md", text_of("README.md").replace("| ns an arc |", "| ns |"))
     assert run(["bench/figures"]) == said("README.md has not the table that bench/figures --write makes\n", status=1)
+
+
+def test_catalogue(c_library: str, folder: str) -> None:
+    """bench/catalogue has a row for each file, with its checksum or its refusal."""
+    make({"it/a|b.gr": ROADS, "it/x.gr": b"x\n"})
+    own = {**os.environ, "DNORM_LIBRARY": f"{c_library}/lib/libdnorm.so.3"}
+    ran = run([f"{ROOT}/bench/catalogue", "it"], env=own)
+    head, _, *rows = ran.out.decode().splitlines()
+    assert (head[:8], head[-20:], ran.status) == ("2 files ", ": 1 accepted, 1 not.", 2), head
+    assert rows[2:] == [
+        f"| it/a\\|b.gr | sp | 3 | 7 | 5 | `{hashlib.sha256(ROADS_CANON).hexdigest()}` |",
+        "| it/x.gr |  |  |  |  | 1: 1 BadLine |",
+    ]
 
 
 def test_lint(folder: str, capfd: pytest.CaptureFixture[str], monkeypatch: pytest.MonkeyPatch) -> None:

@@ -15,7 +15,7 @@ PAGES = ["", "../../../docs", "../../../doc/dnorm/docs", "../../../../share/doc/
 PROGRAMS = ["../../../bin", "../../..", "../../../../bin"]
 WEB = ["", "../../../web", "../../web", "../../../../share/dnorm/web"]
 # The line on standard error of a run that failed, by `dnorm help`. A name may have LF.
-LINE = re.compile(r"(?as)(.*):(?:(\d+|end): (?=[12]?\d [A-Za-z]+\Z)| (?=3[0-6] ))(\d+) ([A-Za-z]+)(?: (\d+))?")
+LINE = re.compile(r"(?as)(.*):(?:([1-9]\d{,18}|end): (?=[12]?\d )| (?=3[0-6] ))(\d+) ([A-Za-z]+)(?: ([1-9]\d{,18}))?")
 FAILURES: "dict[str, type[DnormError]]" = {it.__name__: it for it in (Memory, Read, Endless, Write)}
 
 
@@ -25,6 +25,8 @@ def error_on(line: str) -> Optional[DnormError]:
     if not found or REFUSALS.get(int(found[3]), ("",))[0] != found[4]:
         return None
     name, place, number, word, node = found.groups()
+    if (word == "NotInGraph") is not bool(node) or word == "Write" and name != "out":
+        return None
     if word in FAILURES:
         return FAILURES[word](name)
     return Refused(name, None if place in (None, "end") else int(place), int(number), word, int(node) if node else None)

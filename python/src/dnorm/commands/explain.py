@@ -14,7 +14,7 @@ from ..causes import Opener, cause_of, quoted
 from ..console import for_terminal, is_open
 from ..errors import DnormError, NoProgram, Read, Refused, Write
 from ..files import Copied, of_stream, reason_of
-from ..program import LINE, error_on, find_program
+from ..program import error_on, find_program
 from ..refusals import REFUSALS
 
 USAGE = """\
@@ -86,21 +86,19 @@ def explain_run(words: Sequence[str]) -> int:
     _, said = process.communicate()
     signal.signal(signal.SIGPIPE, signal.SIG_DFL)
     whole = os.fsdecode(said).removesuffix("\n")
-    found = LINE.fullmatch(whole)
+    found = error_on(whole)
     # A name may have LF, and then all is one line.
-    for told in [whole] if found and os.path.lexists(found[1]) else whole.splitlines():
+    for told in [whole] if found and os.path.lexists(found.name) else whole.splitlines():
         say(2, told, wrong_words(words) if told == WRONG[0] else causes_of(told, copy))
     return process.returncode if process.returncode >= 0 else 128 - process.returncode
 
 
 def status_of(told: str) -> int:
     """Returns the status of a run that prints this line."""
-    found = LINE.fullmatch(told)
-    if told in WRONG:
-        return 3
-    if told.startswith("differ "):
-        return 1
-    return (4 if 30 <= int(found[3]) < 34 else 2) if found else 0
+    error = error_on(told)
+    if not error:
+        return 3 if told in WRONG else int(told.startswith("differ "))
+    return 2 if isinstance(error, Refused) else 4
 
 
 def causes_of(told: str, copy: Optional[Copied] = None) -> Iterator[str]:

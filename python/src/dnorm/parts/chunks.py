@@ -112,9 +112,9 @@ def error_of(line: str, status: int) -> Optional[DnormError]:
     if is_of_text or is_written or status == 4 and isinstance(error, Memory) and error.name in ("-", "dnorm"):
         return error
     names = {it.value: f" ({it.name})" for it in signal.Signals}
-    broken, ended = DnormError("dnorm"), f"was ended by signal {-status}{names.get(-status, '')}"
+    broken, ended = DnormError(""), f"was ended by signal {-status}{names.get(-status, '')}"
     odd = f"did not answer as it should (its status was {status}, and it printed {line!r})"
-    broken.what = f": dnorm {ended if status < 0 else odd}"
+    broken.what = f"dnorm {ended if status < 0 else odd}"
     return broken if status else None
 
 
