@@ -26,7 +26,7 @@ Lines printed for a graph, in this order:
                               min: L forced units with the total cost F, and
                               free capacity at N different costs
 
-The pairs are those of the canonical text, by ascending SRC, then by ascending DST.
+The pairs are those of the canonical text, by ascending SRC, then DST.
 
 Lines printed for a companion:
   kind KIND                   ss, p2p or co
