@@ -447,7 +447,11 @@ def test_counts_of_check(folder: str, heeded: None, failing: str, count: str, pa
     make({"bin/make": STANDS.replace("1 passed, 0 failed", "1 failed, 5 passed, 2 skipped, 1 error in 0.1s")}, 0o755)
     if failing:
         write(failing, STANDS.replace("1 passed, 0 failed'", count))
+    # Libraries that `rt check` has left, and make's.
+    make({f"crates/{it}/{file}": "" for it in ("a", "dnorm") for file in ("src/main.rt", "out/rlib/it.rlib/format")})
+    write("crates/a/src/lib.rt", "")
     found = run(["./check"], env=own)
+    assert [os.listdir(f"crates/{it}/out") for it in ("a", "dnorm")] == [[], ["rlib"]]
     last = f"{passed} passed, {failed} failed, 8 skipped"
     assert (found.out.decode().splitlines()[-1], found.status) == (last, 1), found
     told = [it for it in found.out.decode().splitlines() if it.endswith(" failed:")]
