@@ -238,7 +238,7 @@ def meaning(kind: str, arcs: Sequence[Numbers]) -> Meaning | None:
 
 
 def meanings(text: Text) -> dict[Pair, Meaning]:
-    """Returns what each ordered pair means whose arcs mean something, by rising pair."""
+    """Returns what each ordered pair means whose arcs mean something, by ascending pair."""
     found = {pair: meaning(text.kind, arcs) for pair, arcs in sorted(text.arcs().items())}
     return {pair: it for pair, it in found.items() if it is not None}
 

@@ -177,7 +177,7 @@ def ends_of(nodes: int, ends: list[int]) -> Any:
 @dataclass(frozen=True, eq=False, repr=False)
 class Graph(Instance):
     """A graph with the nodes 1 to `nodes`. Arc i goes from `tails[i]` to `heads[i]`. The arcs of an instance that was
-    read are in the order of the canonical text: by rising tail, then by rising head. `to_networkx` and `to_scipy` of
+    read are in the order of the canonical text: by ascending tail, then head. `to_networkx` and `to_scipy` of
     `Sp` and `Max` raise ValueError if arcs are parallel, which no instance has that was read."""
 
     nodes: int

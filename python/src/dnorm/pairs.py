@@ -46,7 +46,7 @@ class PairDifference:
     def curves(self) -> tuple[Curve, Curve]:
         """Returns the least costs of the left and of the right arcs, if they are those of a `min` text.
 
-        A curve is the corners (amount, least cost) by rising amount. An amount is how many units the arcs of the pair
+        A curve is the corners (amount, least cost), by ascending amount. An amount is the units that the arcs of a pair
         carry together. The lower bounds are the least amount; each further unit takes the cheapest arc that has room,
         so the cost of an amount between two corners is on the line between them, and any other amount is infeasible. A
         pair without arcs carries no unit, at no cost."""
@@ -158,14 +158,14 @@ def without_equal(np: Any, keys: Any, rows: Rows, others: Any, other_rows: Rows)
 
 
 def pairs_of(rows: Rows) -> Iterator[tuple[Key, Arcs]]:
-    """Yields the pairs of rows, by rising keys, with their arcs."""
+    """Yields the pairs of rows, by ascending keys, with their arcs."""
     keys, values = (zip(*(it.tolist() for it in columns)) for columns in rows)
     for key, group in groupby(zip(keys, values), itemgetter(0)):
         yield key, tuple(arc for _, arc in group)
 
 
 def merged(left: Iterator[tuple[Key, Arcs]], right: Iterator[tuple[Key, Arcs]]) -> Iterator[tuple[Key, Arcs, Arcs]]:
-    """Yields each key that one of two texts has, by rising keys, with the arcs of both."""
+    """Yields each key that one of two texts has, by ascending keys, with the arcs of both."""
     ours, theirs = next(left, None), next(right, None)
     while ours or theirs:
         key, one, other = min(it[0] for it in (ours, theirs) if it), Arcs(), Arcs()
