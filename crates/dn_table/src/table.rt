@@ -6,12 +6,13 @@ ghost use Rattle.std.specs.List.Sorted.{IsStrictlySortedBy};
 ghost use Rattle.std.specs.Map.{keys_of, lookup};
 ghost use Rattle.dn_arc_theory.specs.declared.arc.Form.{Form};
 ghost use Rattle.dn_arc_theory.specs.Pairs.{pair_cmp, same_pair};
+ghost use Rattle.pair_index.specs.State.Positions.{IsPosition};
 ghost use Rattle.dn_table.specs.State.ListedEntries.{entries_listed};
 ghost use Rattle.dn_table.specs.State.Tables.{CountsBelow, CountsEntries, entry_of};
 
 use crate::entry_sum::{bundle_entries, count_arcs};
 use dn_bundle_trait::{Bundle, Form};
-use pair_index::position_among;
+use pair_index::{is_pair, position_among};
 use std::marker::Model;
 
 /// The bundles of a graph by ordered pair. A pair whose arcs mean the same as no arcs has no bundle.
@@ -67,6 +68,19 @@ impl<B: Bundle> Table<B> {
             Some(position) => Some(&self.entries[position].1),
             None => None,
         }
+    }
+
+    /// Returns the index of a pair among those that have a bundle, counted from 0 by ascending (src, dst), or `None` if
+    /// it has none. The search begins at the pair at `near`, and ends there if it is this one.
+    pub fn position(&self, pair: &(i64, i64), near: usize) -> Option<usize>
+        ensures { IsPosition (keys_of self.now) pair.now result }
+    {
+        if let Some(entry) = self.entries.get(near) {
+            if is_pair(&entry.0, pair) {
+                return Some(near);
+            }
+        }
+        position_among(&self.entries, pair)
     }
 
     /// Iterates over the pairs that have a bundle, by ascending (src, dst). This does not allocate.
