@@ -110,7 +110,9 @@ enum {
     /* The canonical text has more than 2^63-1 counted lines, or there are 2^64 arcs or more (dnorm_arc_count). */
     DNORM_COUNT_TOO_LARGE = 34,
     /* The `dnorm` is not for this call, and nothing changed. */
-    DNORM_WRONG_CALL = 40
+    DNORM_WRONG_CALL = 40,
+    /* The flow is none, or the lines are those of another text (dnorm_spread). */
+    DNORM_NOT_A_FLOW = 42
 };
 
 /* Places of a refusal. */
@@ -253,6 +255,11 @@ typedef struct dnorm_lines_given {
     uint64_t line;
 } dnorm_lines_given;
 
+/* What the lines of a pair have yet to share: room for dnorm_spread to work in. */
+typedef struct dnorm_share {
+    int64_t cost, rest, left;
+} dnorm_share;
+
 /* Makes a reader in `reader`, which owns nothing before.
    Codes: DNORM_FINE; DNORM_MEMORY, and it owns nothing; DNORM_WRONG_CALL if it owns anything, which it keeps. */
 dnorm_status dnorm_begin(dnorm *reader);
@@ -313,6 +320,18 @@ dnorm_difference dnorm_compare(const dnorm *left, const dnorm *right);
 
 /* Returns whether `companion` is an `ss`, `p2p` or `co` instance that names only nodes of `graph`, an `sp` instance. */
 dnorm_fit dnorm_fits(const dnorm *graph, const dnorm *companion);
+
+/* Puts a flow on the canonical arcs of a graph, in form 1 or 2, back on the arc lines of its text. `flow` has the units of
+   each arc, in the order of dnorm_next, and `units` gets those of each line. Each line has units between its lower bound
+   and its capacity, and the units of a pair are those of its arcs: the cheapest lines have them (the shortest ones in
+   `sp`), and of equal ones the first in the text, so that no flow on the lines with these units costs less. `shares` is
+   room to work in: one share for each pair that dnorm_facts counts. What is in it does not matter.
+   Codes: DNORM_FINE. DNORM_NOT_A_FLOW if the lines are not as many as dnorm_facts tells or not in the order of a text, if
+   `flow` has not as many numbers as there are arcs or a negative one, or if the units of a pair are not between the sums
+   of the lower bounds and of the capacities of its lines; `units` and `shares` may have changed. DNORM_WRONG_CALL if
+   there is no graph, there are fewer shares than pairs, or not as many units as lines; nothing changed. */
+dnorm_status dnorm_spread(const dnorm *graph, uint8_t form, const int64_t *flow, size_t flow_count, const dnorm_row *lines,
+                          size_t line_count, dnorm_share *shares, size_t share_count, int64_t *units, size_t unit_count);
 
 /* Frees what it owns. It then owns nothing, and may be used anew. Nothing happens if `any` is null. */
 void dnorm_free(dnorm *any);

@@ -1,0 +1,203 @@
+// Puts a flow on canonical arcs back on arc lines.
+ghost use Rattle.std.specs.Prelude.{◌≡◌, ◌≤◌, length, take, drop, IfSome, IsTrue, OnOk, pos};
+ghost use Rattle.std.specs.List.Sorted.{IsStrictlySortedBy};
+ghost use Rattle.std.specs.Map.{keys_of};
+ghost use Rattle.dn_arc_theory.specs.Pairs.{pair_cmp};
+ghost use Rattle.dn_arc_theory.specs.Splits.{total};
+ghost use Rattle.dn_flow.specs.Spreads.{IsSpread, Spreads};
+ghost use Rattle.dn_flow.specs.State.Givings.{AreNone, Fills, Gives, GivesLine};
+
+use crate::carries::Carries;
+use crate::share::{Share, take};
+use dn_arc_lines::ArcLine;
+use dn_bundle::{Bundle, Form};
+use dn_instance::{Held, View};
+use dn_table::Table;
+
+/// Why a flow is not put on arc lines.
+#[derive(Clone, Copy, PartialEq, Eq)]
+pub enum SpreadFault {
+    /// The instance is a companion, and has no arcs.
+    NoGraph,
+    /// There are fewer shares than pairs, or not as many units as lines.
+    NoRoom,
+    /// The flow does not fit the pairs, or the lines are not those of the instance.
+    NotAFlow,
+}
+
+/// Puts a flow on the canonical arcs of a graph back on the arc lines of its text. `flow` has the units of each arc in
+/// the order of the canonical text in this form, and `units` gets those of each line. `shares` is room to work in, for
+/// one share of each pair.
+///
+/// # Errors
+///
+/// Returns `NotAFlow` if the lines are not as many as the instance has, or not in the order of a text; if the flow does
+/// not have as many numbers as there are arcs, or a negative one; or if the units of a pair are not between the sums of
+/// the lower bounds and of the capacities of its lines. Returns `NoRoom` and `NoGraph` as they say. `units` may have
+/// changed then.
+pub fn spread(
+    held: &Held,
+    form: Form,
+    flow: &[i64],
+    lines: &[ArcLine],
+    shares: &mut [Share],
+    units: &mut [i64],
+) -> Result<(), SpreadFault>
+    ensures ok { OnOk result (Spreads form held.now.contents flow.now lines.now units.new) }
+{
+    let count = lines.len() as i128;
+    if count != held.lines() as i128 || !are_in_order(lines) {
+        return Err(SpreadFault::NotAFlow);
+    }
+    match held.view() {
+        View::Min { table, .. } => spread_over(table, form, flow, lines, shares, units),
+        View::Max { table, .. } => spread_over(table, form, flow, lines, shares, units),
+        View::Sp { table } => spread_over(table, form, flow, lines, shares, units),
+        _ => Err(SpreadFault::NoGraph),
+    }
+}
+
+// Whether the lines are in the order of a text.
+fn are_in_order(lines: &[ArcLine]) -> bool {
+    let mut last = 0;
+    for line in lines {
+        if line.line <= last {
+            return false;
+        }
+        last = line.line;
+    }
+    true
+}
+
+// Puts a flow on the canonical arcs of a table back on arc lines.
+fn spread_over<B: Carries>(
+    table: &Table<B>,
+    form: Form,
+    flow: &[i64],
+    lines: &[ArcLine],
+    shares: &mut [Share],
+    units: &mut [i64],
+) -> Result<(), SpreadFault>
+    ensures ok { OnOk result (IsSpread B.line_bounds (B.bundle.listed form) table.now flow.now lines.now units.new) }
+{
+    if shares.len() < table.len() || units.len() != lines.len() {
+        return Err(SpreadFault::NoRoom);
+    }
+    let is_filled = fill(table, form, flow, shares);
+    if is_filled && give(table, lines, shares, units) && are_none(&shares[..table.len()]) {
+        Ok(())
+    } else {
+        Err(SpreadFault::NotAFlow)
+    }
+}
+
+// Fills the shares of all pairs from the flow. Returns whether the flow fits them.
+fn fill<B: Carries>(table: &Table<B>, form: Form, flow: &[i64], shares: &mut [Share]) -> bool
+    requires { length table.now ≤ length shares.old }
+    ensures fills { IsTrue result → Fills (B.bundle.listed form) table.now flow.now shares.new }
+    ensures kept { length shares.new ≡ length shares.old }
+    ensures ascending { IsStrictlySortedBy pair_cmp (keys_of table.now) }
+{
+    let mut rest = flow;
+    let mut at = 0;
+    for (_pair, bundle) in table.pairs() {
+        let Some((units, after)) = sum_of(rest, bundle.canon_len(form)) else {
+            return false;
+        };
+        let Some(share) = bundle.share(&units) else {
+            return false;
+        };
+        shares[at] = share;
+        at += 1;
+        rest = after;
+    }
+    rest.is_empty()
+}
+
+// Returns the sum of the first `count` numbers and the others, if there are so many, none is negative, and the sum is
+// below 2^63.
+fn sum_of(flow: &[i64], count: u64) -> Option<(i64, &[i64])>
+    ensures whole { IfSome result (λ r. length (take count flow.now) ≡ count) }
+    ensures sum { IfSome result (λ r. r.0 ≡ total (take count flow.now)) }
+    ensures rest { IfSome result (λ r. r.1.now ≡ drop count flow.now) }
+{
+    if (flow.len() as u64) < count {
+        return None;
+    }
+    let (first, rest) = flow.split_at(count as usize);
+    let sum = sum(first)?;
+    Some((sum, rest))
+}
+
+// Returns the sum of these numbers, if none is negative, and the sum is below 2^63.
+fn sum(numbers: &[i64]) -> Option<i64>
+    ensures { IfSome result (λ r. r ≡ total numbers.now) }
+{
+    let mut sum: i64 = 0;
+    for number in numbers {
+        if *number < 0 {
+            return None;
+        }
+        sum = sum.checked_add(*number)?;
+    }
+    Some(sum)
+}
+
+// Gives each line its part of the share of its pair. Returns whether each line has one.
+fn give<B: Carries>(
+    table: &Table<B>,
+    lines: &[ArcLine],
+    shares: &mut [Share],
+    units: &mut [i64],
+) -> bool
+    requires pairs { length table.now ≤ length shares.old }
+    requires lines { length lines.now ≡ length units.old }
+    ensures gives { IsTrue result → Gives B.line_bounds (keys_of table.now) shares.old lines.now units.new shares.new }
+    ensures kept { length shares.new ≡ length shares.old }
+{
+    let mut near = 0;
+    for i in 0..lines.len() {
+        let Some((some, at)) = give_line(table, &lines[i], near, shares) else {
+            return false;
+        };
+        units[i] = some;
+        near = at;
+    }
+    true
+}
+
+// Gives a line its part of the share of its pair. Returns its units, and where the pair of the next line is likely to be,
+// as `near` is for this one.
+fn give_line<B: Carries>(
+    table: &Table<B>,
+    line: &ArcLine,
+    near: usize,
+    shares: &mut [Share],
+) -> Option<(i64, usize)>
+    requires pairs { length table.now ≤ length shares.old }
+    ensures gives { IfSome result (λ r. GivesLine B.line_bounds (keys_of table.now) shares.old line.now r.0 shares.new) }
+    ensures kept { length shares.new ≡ length shares.old }
+{
+    let arc = B::bounds(line);
+    match table.position(&(line.tail, line.head), near) {
+        Some(at) => {
+            let (units, share) = take(&shares[at], &arc)?;
+            shares[at] = share;
+            Some((units, at.saturating_add(1)))
+        }
+        None if arc.low == 0 && arc.cap == 0 => Some((0, near)),
+        None => None,
+    }
+}
+
+// Whether no share has units left.
+fn are_none(shares: &[Share]) -> bool
+    ensures { IsTrue result → AreNone shares.now }
+{
+    for share in shares {
+        if share.left != 0 {
+            return false;
+        }
+    }
+    true
+}
