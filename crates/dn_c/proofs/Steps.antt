@@ -27,7 +27,7 @@ pub use denote.Triple.Spec.{triple_of}
 pub use denote.Triple.Walked.{Stays, walk_of, says, stay_dropped, Goes-dropped, ends_at, stay_none_ref, Goes-none_ref}
 pub use denote.Triple.Table.{framed, entered}
 pub use denote.Memory.{shared_of, hidden_shr}
-pub use denote.Slice.{mut_slice_vals, mut_slice_Tells}
+pub use denote.Slice.{mut_slice_vals, mut_slice_Tells, shr_slice_vals, shr_slice_Tells}
 pub use types.Part.{agg, sub, whole}
 pub use Rattle.std.specs.Prelude.{Option, Some, None, IsSome}
 pub use denote.Plain.{uint_vals, uint_Tells}

@@ -4,6 +4,7 @@ pub mod Cursors
 pub mod Facts
 pub mod Differences
 pub mod Fits
+pub mod Flows
 pub mod Items
 pub mod Lines
 pub mod Outputs

@@ -3,6 +3,7 @@
 ghost use Rattle.std.specs.Prelude.{◌≡◌, ◌≤◌, None, length};
 ghost use Rattle.dn_c.specs.State.Differences.{ComparesWorks};
 ghost use Rattle.dn_c.specs.State.Fits.{Judges};
+ghost use Rattle.dn_c.specs.State.Flows.{SpreadsHeld};
 ghost use Rattle.dn_c.specs.State.Lines.{BeginsLines, TakesHeldLines};
 ghost use Rattle.dn_c.specs.State.Facts.{IsFacts};
 ghost use Rattle.dn_c.specs.State.Outputs.{CopiesHeld, CopiesItems, CopiesText, CountsArcs, PrintsHeld};
@@ -17,6 +18,7 @@ use crate::cursor::Cursor;
 use crate::difference::{Difference, parting};
 use crate::facts::{Facts, tell};
 use crate::fits::{Fit, judge};
+use crate::flows::spread_on;
 use crate::handle::Handle;
 use crate::items::Item;
 use crate::lines::{Lines, lines_of, no_lines};
@@ -26,6 +28,7 @@ use crate::status::{Count, Status, fine, refused_with, wrong_call, wrong_count};
 use crate::store::store;
 use crate::work::Work;
 use dn_arc_lines::{ArcLine, ArcLines};
+use dn_flow::PairShare;
 use dn_instance::{Reader, Refusal};
 use std::alloc::Global;
 
@@ -235,6 +238,32 @@ pub unsafe extern "C" fn dnorm_canon(handle: *const u8, form: u8, into: &mut Han
     ensures prints { PrintsHeld (shown_work g.1) form (work_of into.old) (work_of into.new) result }
 {
     canon_into(&*(handle as *const Shown), form, into)
+}
+
+/// Puts a flow on the canonical arcs of the graph in a form (1 or 2) back on its arc lines. `flow` has the units of each
+/// arc in the order of the canonical text, and `units` gets those of each line. `shares` is room to work in, for one
+/// share of each pair.
+///
+/// # Errors
+///
+/// The status is 42 if this is no flow on the lines, or the lines are not those of the graph; `units` and `shares` may
+/// have changed. It is that of a wrong call where the handle holds no graph, there are fewer shares than pairs, or not as
+/// many units as lines, and then nothing changes.
+#[unsafe(no_mangle)]
+pub unsafe extern "C" fn dnorm_spread(
+    handle: *const u8,
+    form: u8,
+    flow: &[i64],
+    lines: &[ArcLine],
+    shares: &mut [PairShare],
+    units: &mut [i64],
+) -> Status
+    ghost g: { (Lft × Share) × Shown }
+    requires* { sem 𝓛 (read_at g.0 handle g.1) }
+    ensures* alive { sem 𝓛 (alive_at g.0) }
+    ensures spreads { SpreadsHeld (shown_work g.1) form flow.now lines.now units.new result }
+{
+    spread_on(&*(handle as *const Shown), form, flow, lines, shares, units)
 }
 
 /// Copies the bytes of the text from the one at `from`, counted from 0, as far as there is room. Returns how many it

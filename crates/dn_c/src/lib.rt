@@ -5,8 +5,8 @@
 //! refusal, a text, or a reader of arc lines. `seal` keeps a work behind a pointer, and `shown` lends it to calls that
 //! only read it. `status` is what a call returns. `walk` goes over canonical `arcs` from any `cursor` on, and `next`
 //! copies them. `facts`, `items` and `outputs` copy the rest out, `lines` hands out arc lines, and `store` puts a new
-//! work into a handle. `difference` compares two instances, and `fits` a companion with its graph. C may call them in
-//! any order: a call that a handle is not for changes nothing and says so.
+//! work into a handle. `difference` compares two instances, `fits` a companion with its graph, and `flows` puts a flow
+//! on arc lines. C may call them in any order: a call that a handle is not for changes nothing and says so.
 #![tactic(auto)]
 
 mod arcs;
@@ -15,6 +15,7 @@ mod difference;
 pub mod exports;
 mod facts;
 mod fits;
+mod flows;
 pub mod handle;
 mod items;
 pub mod laws;

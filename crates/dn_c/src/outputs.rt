@@ -18,7 +18,7 @@ use dn_canon::canon_text;
 use dn_instance::{Held, Table, View};
 
 // Returns the form with this number: 2 is form 2, and any other form 1.
-fn form_numbered(form: u8) -> Form
+pub(crate) fn form_numbered(form: u8) -> Form
     ensures { result ≡ form_numbered form }
 {
     if form == 2 { Form::Two } else { Form::One }

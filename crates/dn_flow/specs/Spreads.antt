@@ -1,6 +1,6 @@
 -- A flow on the arc lines of a text that is the same as one on canonical arcs (this project's profile; the formats of the
 -- First DIMACS Challenge let parallel arcs carry any units between their lower bounds and capacities).
-use Rattle.std.specs.Prelude.{◌≡◌, ◌⊎◌, ◌-◌, ◌^◌, ℤ, pos, ◌+ℤ◌, ◌≤ℤ◌, ◌<ℤ◌, List, [], ◌∷◌, length, map, cond}
+use Rattle.std.specs.Prelude.{◌≡◌, ◌≢◌, ◌⊎◌, ◌-◌, ◌^◌, ℕ, ◌<◌, ℤ, pos, ◌+ℤ◌, ◌≤ℤ◌, ◌<ℤ◌, List, [], ◌∷◌, length, map, cond}
 use Rattle.dn_arc_theory.specs.Pairs.{same_pair}
 use Rattle.dn_arc_theory.specs.Splits.{AreShares}
 use Rattle.dn_arc_theory.specs.declared.arc.CostArc.{CostArc}
@@ -13,6 +13,16 @@ use Rattle.dn_instance.specs.State.Helds.{Contents, OfMin, OfMax, OfSp}
 -- the ordered pair of a line
 abbrev pub pair_of : ArcLine → ℤ × ℤ
 pair_of line = (line.tail, line.head)
+
+-- the numbers of the lines ascend, from one above this
+abbrev pub AreAscending : ℕ → List ArcLine → Type 0
+AreAscending last [] = Unit {0}
+AreAscending last (line ∷ lines) = (last < line.line) × AreAscending line.line lines
+
+-- these are so many lines, in the order of a text
+pub record AreLines (count : ℤ) (lines : List ArcLine) : Type 0 where
+  pub all : pos (length lines) ≡ count
+  pub ascending : AreAscending 0 lines
 
 -- the lower bound, the capacity and the cost of a unit of a line: each line of an `sp` graph carries any units that fit
 -- 64 bits, at its length
@@ -65,3 +75,14 @@ Spreads form (OfMin flows table) = IsSpread cost_bounds (curve_arcs form) table
 Spreads form (OfMax source sink table) = IsSpread cap_bounds total_arcs table
 Spreads form (OfSp table) = IsSpread length_bounds least_arcs table
 Spreads form _ = λ flow lines units. ⊥
+
+-- a companion has no arcs
+abbrev pub IsCompanion : Contents → Type 0
+IsCompanion (OfMin flows table) = ⊥
+IsCompanion (OfMax source sink table) = ⊥
+IsCompanion (OfSp table) = ⊥
+IsCompanion _ = Unit {0}
+
+-- there are fewer shares than pairs, or not as many units as lines
+abbrev pub LacksRoom : ℕ → ℕ → ℕ → ℕ → Type 0
+LacksRoom pairs shares lines units = (shares < pairs) ⊎ (units ≢ lines)

@@ -4,7 +4,7 @@ ghost use Rattle.dn_arc_theory.specs.declared.arc.CostArc.{CostArc};
 ghost use Rattle.dn_arc_lines.specs.declared.arc_line.ArcLine.{ArcLine};
 ghost use Rattle.dn_flow.specs.Spreads.{cap_bounds, cost_bounds, length_bounds};
 
-use crate::share::Share;
+use crate::share::PairShare;
 use dn_arc_lines::ArcLine;
 use dn_arc_theory::CostArc;
 use dn_bundle::{Bundle, Curve, Least, Total};
@@ -19,7 +19,7 @@ pub(crate) trait Carries: Bundle {
         ensures { result ≡ line_bounds line.now };
 
     // Returns what the lines of the pair share, if so many units fit them.
-    fn share(&self, units: &i64) -> Option<Share>
+    fn share(&self, units: &i64) -> Option<PairShare>
         ensures { IfSome result (λ s. s.left ≡ units.now) };
 }
 
@@ -34,8 +34,8 @@ impl Carries for Least {
         }
     }
 
-    fn share(&self, units: &i64) -> Option<Share> {
-        Some(Share {
+    fn share(&self, units: &i64) -> Option<PairShare> {
+        Some(PairShare {
             cost: self.get(),
             rest: *units,
             left: *units,
@@ -54,11 +54,11 @@ impl Carries for Total {
         }
     }
 
-    fn share(&self, units: &i64) -> Option<Share> {
+    fn share(&self, units: &i64) -> Option<PairShare> {
         if self.get() < *units {
             return None;
         }
-        Some(Share {
+        Some(PairShare {
             cost: 0,
             rest: *units,
             left: *units,
@@ -77,7 +77,7 @@ impl Carries for Curve {
         }
     }
 
-    fn share(&self, units: &i64) -> Option<Share> {
+    fn share(&self, units: &i64) -> Option<PairShare> {
         let mut rest = units.checked_sub(self.forced().0)?;
         let mut cost = i64::MIN;
         for i in 0..self.free_len() {
@@ -88,7 +88,7 @@ impl Carries for Curve {
             }
             rest = rest.checked_sub(room)?;
         }
-        Some(Share {
+        Some(PairShare {
             cost,
             rest,
             left: *units,

@@ -1,14 +1,15 @@
 // Puts a flow on canonical arcs back on arc lines.
-ghost use Rattle.std.specs.Prelude.{◌≡◌, ◌≤◌, length, take, drop, IfSome, IsTrue, OnOk, pos};
+ghost use Rattle.std.specs.Prelude.{◌≡◌, ◌≤◌, length, take, drop, IfSome, IsTrue, OnErr, OnOk, ◌↔◌, ◌≢◌, ◌⊎◌};
 ghost use Rattle.std.specs.List.Sorted.{IsStrictlySortedBy};
 ghost use Rattle.std.specs.Map.{keys_of};
 ghost use Rattle.dn_arc_theory.specs.Pairs.{pair_cmp};
 ghost use Rattle.dn_arc_theory.specs.Splits.{total};
-ghost use Rattle.dn_flow.specs.Spreads.{IsSpread, Spreads};
+ghost use Rattle.dn_instance.specs.State.Helds.{pair_count};
+ghost use Rattle.dn_flow.specs.Spreads.{AreAscending, AreLines, IsCompanion, IsSpread, LacksRoom, Spreads, pair_of};
 ghost use Rattle.dn_flow.specs.State.Givings.{AreNone, Fills, Gives, GivesLine};
 
 use crate::carries::Carries;
-use crate::share::{Share, take};
+use crate::share::{PairShare, take};
 use dn_arc_lines::ArcLine;
 use dn_bundle::{Bundle, Form};
 use dn_instance::{Held, View};
@@ -40,25 +41,36 @@ pub fn spread(
     form: Form,
     flow: &[i64],
     lines: &[ArcLine],
-    shares: &mut [Share],
+    shares: &mut [PairShare],
     units: &mut [i64],
 ) -> Result<(), SpreadFault>
+    ensures lines { OnOk result (AreLines held.now.lines lines.now) }
     ensures ok { OnOk result (Spreads form held.now.contents flow.now lines.now units.new) }
+    ensures no_graph { (result ≡ Err SpreadFault.NoGraph) ↔ IsCompanion held.now.contents }
+    ensures no_room { (result ≡ Err SpreadFault.NoRoom) → LacksRoom (pair_count held.now.contents) (length shares.old)
+        (length lines.now) (length units.old) }
+    ensures kept { OnErr result ((result ≡ Err SpreadFault.NotAFlow) ⊎ (units.new ≡ units.old)) }
 {
-    let count = lines.len() as i128;
-    if count != held.lines() as i128 || !are_in_order(lines) {
-        return Err(SpreadFault::NotAFlow);
-    }
+    let count = held.lines();
     match held.view() {
-        View::Min { table, .. } => spread_over(table, form, flow, lines, shares, units),
-        View::Max { table, .. } => spread_over(table, form, flow, lines, shares, units),
-        View::Sp { table } => spread_over(table, form, flow, lines, shares, units),
+        View::Min { table, .. } => spread_over(table, count, form, flow, lines, shares, units),
+        View::Max { table, .. } => spread_over(table, count, form, flow, lines, shares, units),
+        View::Sp { table } => spread_over(table, count, form, flow, lines, shares, units),
         _ => Err(SpreadFault::NoGraph),
     }
 }
 
-// Whether the lines are in the order of a text.
-fn are_in_order(lines: &[ArcLine]) -> bool {
+// Whether these are as many lines, in the order of a text.
+fn are_lines(lines: &[ArcLine], count: i64) -> bool
+    ensures { IsTrue result → AreLines count lines.now }
+{
+    lines.len() as i128 == count as i128 && are_ascending(lines)
+}
+
+// Whether the numbers of the lines ascend.
+fn are_ascending(lines: &[ArcLine]) -> bool
+    ensures { IsTrue result → AreAscending 0 lines.now }
+{
     let mut last = 0;
     for line in lines {
         if line.line <= last {
@@ -72,19 +84,27 @@ fn are_in_order(lines: &[ArcLine]) -> bool {
 // Puts a flow on the canonical arcs of a table back on arc lines.
 fn spread_over<B: Carries>(
     table: &Table<B>,
+    count: i64,
     form: Form,
     flow: &[i64],
     lines: &[ArcLine],
-    shares: &mut [Share],
+    shares: &mut [PairShare],
     units: &mut [i64],
 ) -> Result<(), SpreadFault>
+    ensures lines { OnOk result (AreLines count lines.now) }
+    ensures graph { result ≢ Err SpreadFault.NoGraph }
+    ensures no_room { (result ≡ Err SpreadFault.NoRoom)
+        → LacksRoom (length table.now) (length shares.old) (length lines.now) (length units.old) }
+    ensures kept { (result ≡ Err SpreadFault.NoRoom) → units.new ≡ units.old }
     ensures ok { OnOk result (IsSpread B.line_bounds (B.bundle.listed form) table.now flow.now lines.now units.new) }
 {
     if shares.len() < table.len() || units.len() != lines.len() {
         return Err(SpreadFault::NoRoom);
     }
-    let is_filled = fill(table, form, flow, shares);
-    if is_filled && give(table, lines, shares, units) && are_none(&shares[..table.len()]) {
+    if !are_lines(lines, count) || !fill(table, form, flow, shares) {
+        return Err(SpreadFault::NotAFlow);
+    }
+    if give(table, lines, shares, units) && are_none(&shares[..table.len()]) {
         Ok(())
     } else {
         Err(SpreadFault::NotAFlow)
@@ -92,7 +112,7 @@ fn spread_over<B: Carries>(
 }
 
 // Fills the shares of all pairs from the flow. Returns whether the flow fits them.
-fn fill<B: Carries>(table: &Table<B>, form: Form, flow: &[i64], shares: &mut [Share]) -> bool
+fn fill<B: Carries>(table: &Table<B>, form: Form, flow: &[i64], shares: &mut [PairShare]) -> bool
     requires { length table.now ≤ length shares.old }
     ensures fills { IsTrue result → Fills (B.bundle.listed form) table.now flow.now shares.new }
     ensures kept { length shares.new ≡ length shares.old }
@@ -147,7 +167,7 @@ fn sum(numbers: &[i64]) -> Option<i64>
 fn give<B: Carries>(
     table: &Table<B>,
     lines: &[ArcLine],
-    shares: &mut [Share],
+    shares: &mut [PairShare],
     units: &mut [i64],
 ) -> bool
     requires pairs { length table.now ≤ length shares.old }
@@ -157,41 +177,46 @@ fn give<B: Carries>(
 {
     let mut near = 0;
     for i in 0..lines.len() {
-        let Some((some, at)) = give_line(table, &lines[i], near, shares) else {
+        let Some(some) = give_line(table, &lines[i], &mut near, shares) else {
             return false;
         };
         units[i] = some;
-        near = at;
     }
     true
 }
 
-// Gives a line its part of the share of its pair. Returns its units, and where the pair of the next line is likely to be,
-// as `near` is for this one.
+// Gives a line its part of the share of its pair, and returns its units. The pair is likely to be at `near`, where that of
+// the next line is likely to be then.
 fn give_line<B: Carries>(
     table: &Table<B>,
     line: &ArcLine,
-    near: usize,
-    shares: &mut [Share],
-) -> Option<(i64, usize)>
+    near: &mut usize,
+    shares: &mut [PairShare],
+) -> Option<i64>
     requires pairs { length table.now ≤ length shares.old }
-    ensures gives { IfSome result (λ r. GivesLine B.line_bounds (keys_of table.now) shares.old line.now r.0 shares.new) }
+    ensures gives { IfSome result (λ u. GivesLine B.line_bounds (keys_of table.now) shares.old line.now u shares.new) }
     ensures kept { length shares.new ≡ length shares.old }
 {
     let arc = B::bounds(line);
-    match table.position(&(line.tail, line.head), near) {
+    match table.position(&pair_of(line), *near) {
         Some(at) => {
-            let (units, share) = take(&shares[at], &arc)?;
-            shares[at] = share;
-            Some((units, at.saturating_add(1)))
+            *near = at.saturating_add(1);
+            take(&mut shares[at], &arc)
         }
-        None if arc.low == 0 && arc.cap == 0 => Some((0, near)),
+        None if arc.low == 0 && arc.cap == 0 => Some(0),
         None => None,
     }
 }
 
+// Returns the pair of a line.
+fn pair_of(line: &ArcLine) -> (i64, i64)
+    ensures { result ≡ pair_of line.now }
+{
+    (line.tail, line.head)
+}
+
 // Whether no share has units left.
-fn are_none(shares: &[Share]) -> bool
+fn are_none(shares: &[PairShare]) -> bool
     ensures { IsTrue result → AreNone shares.now }
 {
     for share in shares {

@@ -11,4 +11,4 @@ pub mod flow;
 pub mod share;
 
 pub use flow::{SpreadFault, spread};
-pub use share::Share;
+pub use share::PairShare;

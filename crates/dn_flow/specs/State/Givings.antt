@@ -7,14 +7,14 @@ use Rattle.dn_arc_theory.specs.declared.arc.CostArc.{CostArc}
 use Rattle.dn_arc_lines.specs.declared.arc_line.ArcLine.{ArcLine}
 use Rattle.pair_index.specs.State.Positions.{key_at}
 use Rattle.dn_flow.specs.Spreads.{pair_of}
-use Rattle.dn_flow.specs.declared.share.Share.{Share}
+use Rattle.dn_flow.specs.declared.share.PairShare.{PairShare}
 
 -- the units that the lines of each pair have yet to get
-abbrev pub lefts : List Share → List ℤ
-lefts shares = map (λ (s : Share). s.left) shares
+abbrev pub lefts : List PairShare → List ℤ
+lefts shares = map (λ (s : PairShare). s.left) shares
 
 -- a line has these units of what its pair has left, and so many remain then for the lines of the same cost
-pub record HasPart (old : Share) (line : CostArc) (u rest : ℤ) : Type 0 where
+pub record HasPart (old : PairShare) (line : CostArc) (u rest : ℤ) : Type 0 where
   pub low : line.low ≤ℤ u
   pub high : u ≤ℤ line.cap
   pub cheap : line.cost <ℤ old.cost → u ≡ line.cap
@@ -24,28 +24,28 @@ pub record HasPart (old : Share) (line : CostArc) (u rest : ℤ) : Type 0 where
   pub over : old.rest ≤ℤ pos 0 → rest ≤ℤ pos 0
 
 -- a line takes these units of the share of its pair
-pub record Takes (old : Share) (line : CostArc) (u : ℤ) (new : Share) : Type 0 where
+pub record Takes (old : PairShare) (line : CostArc) (u : ℤ) (new : PairShare) : Type 0 where
   pub part : HasPart old line u new.rest
   pub left : old.left ≡ u +ℤ new.left
   pub cost : new.cost ≡ old.cost
 
 -- a line takes its units of the share of its pair, or its pair has no share, and the line no room
-abbrev pub GivesLine : (ArcLine → CostArc) → List (ℤ × ℤ) → List Share → ArcLine → ℤ → List Share → Type 0
+abbrev pub GivesLine : (ArcLine → CostArc) → List (ℤ × ℤ) → List PairShare → ArcLine → ℤ → List PairShare → Type 0
 GivesLine bounds keys old line u new =
-    ((i : ℕ) × (share : Share) × (s : Share) × (i < length keys) × (key_at keys i ≡ pair_of line)
+    ((i : ℕ) × (share : PairShare) × (s : PairShare) × (i < length keys) × (key_at keys i ≡ pair_of line)
     × (slice_get old i ≡ Some share) × Takes share (bounds line) u s × (new ≡ set old i s))
     ⊎ ((list_any (same_pair (pair_of line)) keys ≡ false) × ((bounds line).low ≡ pos 0) × ((bounds line).cap ≡ pos 0)
     × (u ≡ pos 0) × (new ≡ old))
 
 -- each line in its order takes its units
-abbrev pub Gives : (ArcLine → CostArc) → List (ℤ × ℤ) → List Share → List ArcLine → List ℤ → List Share → Type 0
+abbrev pub Gives : (ArcLine → CostArc) → List (ℤ × ℤ) → List PairShare → List ArcLine → List ℤ → List PairShare → Type 0
 Gives bounds keys old [] units new = (units ≡ []) × (new ≡ old)
 Gives bounds keys old (line ∷ lines) units new =
-    (u : ℤ) × (rest : List ℤ) × (next : List Share) × (units ≡ u ∷ rest) × GivesLine bounds keys old line u next
+    (u : ℤ) × (rest : List ℤ) × (next : List PairShare) × (units ≡ u ∷ rest) × GivesLine bounds keys old line u next
     × Gives bounds keys next lines rest new
 
 -- the share of each pair has the units of its arcs
-abbrev pub Fills : {B Arc : Type 0} → (B → List Arc) → List ((ℤ × ℤ) × B) → List ℤ → List Share → Type 0
+abbrev pub Fills : {B Arc : Type 0} → (B → List Arc) → List ((ℤ × ℤ) × B) → List ℤ → List PairShare → Type 0
 Fills lists [] flow shares = flow ≡ []
 Fills lists (e ∷ table) flow [] = ⊥
 Fills lists (e ∷ table) flow (s ∷ shares) =
@@ -53,5 +53,5 @@ Fills lists (e ∷ table) flow (s ∷ shares) =
     × Fills lists table (drop (length (lists e.1)) flow) shares
 
 -- no share has units left
-abbrev pub AreNone : List Share → Type 0
-AreNone shares = AllByRecursion (λ (s : Share). s.left ≡ pos 0) shares
+abbrev pub AreNone : List PairShare → Type 0
+AreNone shares = AllByRecursion (λ (s : PairShare). s.left ≡ pos 0) shares
