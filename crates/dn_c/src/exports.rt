@@ -261,7 +261,7 @@ pub unsafe extern "C" fn dnorm_spread(
     ghost g: { (Lft × Share) × Shown }
     requires* { sem 𝓛 (read_at g.0 handle g.1) }
     ensures* alive { sem 𝓛 (alive_at g.0) }
-    ensures spreads { SpreadsHeld (shown_work g.1) form flow.now lines.now units.new result }
+    ensures spreads { SpreadsHeld (shown_work g.1) form flow.now lines.now (length shares.old) units.old units.new result }
 {
     spread_on(&*(handle as *const Shown), form, flow, lines, shares, units)
 }

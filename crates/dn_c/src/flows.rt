@@ -1,6 +1,6 @@
 // Puts a flow on canonical arcs back on arc lines, as C has it.
-ghost use Rattle.std.specs.Prelude.{◌≡◌};
-ghost use Rattle.dn_c.specs.State.Flows.{SpreadsHeld, spread_status};
+ghost use Rattle.std.specs.Prelude.{◌≡◌, length};
+ghost use Rattle.dn_c.specs.State.Flows.{SpreadsHeld, not_a_flow};
 ghost use Rattle.dn_c.specs.State.Reads.{shown_work};
 
 use crate::outputs::form_numbered;
@@ -19,27 +19,28 @@ pub fn spread_on(
     shares: &mut [PairShare],
     units: &mut [i64],
 ) -> Status
-    ensures { SpreadsHeld (shown_work handle.now) form flow.now lines.now units.new result }
+    ensures { SpreadsHeld (shown_work handle.now) form flow.now lines.now (length shares.old) units.old units.new result }
 {
     match handle.get() {
         Some(Work::Read(held, _)) => {
-            status_of(spread(held, form_numbered(form), flow, lines, shares, units))
+            match spread(held, form_numbered(form), flow, lines, shares, units) {
+                Ok(()) => fine(),
+                Err(SpreadFault::NotAFlow) => not_a_flow(),
+                Err(SpreadFault::NoGraph) => wrong_call(),
+                Err(SpreadFault::NoRoom) => wrong_call(),
+            }
         }
         _ => wrong_call(),
     }
 }
 
-// Returns the status of what the call of `dn_flow` returned.
-fn status_of(spread: Result<(), SpreadFault>) -> Status
-    ensures { result ≡ spread_status spread }
+// Returns the status where the flow is none.
+fn not_a_flow() -> Status
+    ensures { result ≡ not_a_flow }
 {
-    match spread {
-        Ok(()) => fine(),
-        Err(SpreadFault::NotAFlow) => Status {
-            code: 42,
-            place: 0,
-            line: 0,
-        },
-        Err(_) => wrong_call(),
+    Status {
+        code: 42,
+        place: 0,
+        line: 0,
     }
 }

@@ -1,1 +1,3 @@
+pub mod FitLaws
+pub mod ShareLaws
 pub mod SpreadLaws

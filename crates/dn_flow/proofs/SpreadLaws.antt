@@ -1,5 +1,5 @@
 -- Laws of how shares are filled from a flow, and given to lines.
-use Rattle.std.proofs.Common.{IsTrue, nat_eq, inl, inr, ◌≡◌, ◌⊎◌, ℕ, ◌+◌, ◌<◌, ◌≤◌, zero, suc, ℤ, pos, ◌+ℤ◌, ◌≤ℤ◌, ◌<ℤ◌, List, [], ◌∷◌, ◌++◌, length, take, drop, map, Bool, true, false, cond, Some, slice_get, refl, sym, ap, ◌∙◌, subst, arith}
+use Rattle.std.proofs.Common.{append_assoc, IsTrue, nat_eq, inl, inr, ◌≡◌, ◌⊎◌, ℕ, ◌+◌, ◌<◌, ◌≤◌, zero, suc, ℤ, pos, ◌+ℤ◌, ◌≤ℤ◌, ◌<ℤ◌, List, [], ◌∷◌, ◌++◌, length, take, drop, map, Bool, true, false, cond, Some, slice_get, refl, sym, ap, ◌∙◌, subst, arith}
 use Rattle.std.specs.Prelude.{set, get_or}
 use Rattle.std.proofs.lemmas.Bool.{cases_Bool}
 use Rattle.std.proofs.lemmas.Bool.Decides.{nat_tests}
@@ -7,7 +7,7 @@ use Rattle.std.proofs.lemmas.Int.{by_lt_z, ints}
 use Rattle.std.proofs.lemmas.Option.{get_or_from_slice_get, slice_get_within}
 use Rattle.std.specs.List.{AllByRecursion, IsDistinct, list_any}
 use Rattle.dn_arc_theory.proofs.PairLaws.{pair_self}
-use Rattle.std.proofs.lemmas.List.{drop_all, get_or-set_same, get_or-set_other, length-append, length-map, map-append, take-append-drop}
+use Rattle.std.proofs.lemmas.List.{take_more_set, drop_all, get_or-set_same, get_or-set_other, length-append, length-map, map-append, take-append-drop}
 use Rattle.std.specs.Map.{keys_of}
 use Rattle.std.proofs.lemmas.Map.Entries.{length-keys_of}
 use Rattle.std.proofs.lemmas.Map.Keys.{IsDistinct-head, IsDistinct-tail}
@@ -17,12 +17,12 @@ use Rattle.dn_arc_theory.specs.declared.arc.CostArc.{CostArc}
 use Rattle.dn_arc_lines.specs.declared.arc_line.ArcLine.{ArcLine}
 use Rattle.dn_canon.specs.State.ListedArcs.{placed, listed_arcs}
 use Rattle.pair_index.specs.State.Positions.{key_at}
-use Rattle.dn_flow.specs.Spreads.{pair_of, units_at, AllLines, AreInOrder, IsInOrder, IsSpread}
+use Rattle.dn_flow.specs.State.Spreads.{pair_of, units_at, AllLines, AreInOrder, IsInOrder, IsSpread}
 use Rattle.dn_flow.specs.State.Givings.{lefts, AreNone, Fills, Gives, GivesLine, Takes}
 use Rattle.dn_flow.specs.declared.share.PairShare.{PairShare}
 
 -- a flow that fills all shares has a number for each arc
-flow_length : {B Arc : Type 0} (lists : B → List Arc) (table : List ((ℤ × ℤ) × B)) (flow : List ℤ) (shares : List PairShare)
+pub flow_length : {B Arc : Type 0} (lists : B → List Arc) (table : List ((ℤ × ℤ) × B)) (flow : List ℤ) (shares : List PairShare)
     → Fills lists table flow shares → length flow ≡ length (listed_arcs lists table)
 flow_length lists [] flow shares h = rw h refl
 flow_length lists (e ∷ table) flow [] h = absurd h
@@ -37,7 +37,7 @@ flow_length {Arc = Arc} lists (e ∷ table) flow (s ∷ shares) h =
 
 module _ (p : ℤ × ℤ) where
   -- the units of two lists, one behind the other
-  units_append : (ps qs : List (ℤ × ℤ)) (us vs : List ℤ) → length us ≡ length ps
+  pub units_append : (ps qs : List (ℤ × ℤ)) (us vs : List ℤ) → length us ≡ length ps
       → units_at p (ps ++ qs) (us ++ vs) ≡ units_at p ps us +ℤ units_at p qs vs
   units_append [] qs [] vs e = omega (arith, ints)
   units_append [] qs (u ∷ us) vs e = absurd (omega (arith, e))
@@ -46,7 +46,7 @@ module _ (p : ℤ × ℤ) where
       let rest = units_append ps qs us vs (omega (arith, e)) in omega (arith, ints, rest)
 
   -- the units of arcs that all have the pair q
-  placed_units : {Arc : Type 0} (q : ℤ × ℤ) (xs : List Arc) (us : List ℤ) → length us ≡ length xs
+  pub placed_units : {Arc : Type 0} (q : ℤ × ℤ) (xs : List Arc) (us : List ℤ) → length us ≡ length xs
       → units_at p (map (λ a. a.0) (placed q xs)) us ≡ cond (same_pair p q) (total us) (pos 0)
   placed_units q [] [] e = elim (cases_Bool (same_pair p q)) [ inl t ↦ rw t refl | inr t ↦ rw t refl ]
   placed_units q [] (u ∷ us) e = absurd (omega (arith, e))
@@ -163,7 +163,7 @@ unlike k [] j h low e = absurd (omega (arith, low))
 unlike k (x ∷ ks) zero h low e = let clash = rw (← e) at h.0 in cc (clash, pair_self k)
 unlike k (x ∷ ks) (suc j) h low e = unlike k ks j h.1 (omega (arith, low)) e
 
-unlisted : (k : ℤ × ℤ) (ks : List (ℤ × ℤ)) (j : ℕ) → list_any (same_pair k) ks ≡ false → j < length ks
+pub unlisted : (k : ℤ × ℤ) (ks : List (ℤ × ℤ)) (j : ℕ) → list_any (same_pair k) ks ≡ false → j < length ks
     → k ≡ key_at ks j → ⊥
 unlisted k [] j h low e = absurd (omega (arith, low))
 unlisted k (x ∷ ks) zero h low e = let clash = rw (← e, pair_self k) at h in cc
@@ -173,7 +173,7 @@ unlisted k (x ∷ ks) (suc j) h low e = elim (cases_Bool (same_pair k x)) [
 ]
 
 -- a pair has one position
-one_position : (ks : List (ℤ × ℤ)) → IsDistinct same_pair ks → (i j : ℕ) → i < length ks → j < length ks
+pub one_position : (ks : List (ℤ × ℤ)) → IsDistinct same_pair ks → (i j : ℕ) → i < length ks → j < length ks
     → key_at ks i ≡ key_at ks j → i ≡ j
 one_position [] d i j low l e = absurd (omega (arith, low))
 one_position (k ∷ ks) d zero zero low l e = refl
@@ -315,3 +315,11 @@ spread_is bounds lists table flow lines units before after apart fills gives non
           omega (arith, ints, sums, left, all);
       cheapest = in_order bounds keys apart before lines units after gives;
     }
+
+-- one more element is set, and what follows
+pub more_set : {X : Type 0} (xs : List X) (i : ℕ) (y : X) (ys : List X) → i < length xs
+    → take (i + 1) (set xs i y) ++ ys ≡ take i xs ++ y ∷ ys
+more_set xs i y ys low = ap (λ l. l ++ ys) (take_more_set xs i y low) ∙ append_assoc (take i xs) (y ∷ []) ys
+
+pub not_both : (b : Bool) → b ≡ false → IsTrue b → ⊥
+not_both b f t = cc

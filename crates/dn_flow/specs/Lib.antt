@@ -1,2 +1,1 @@
-pub mod Spreads
 pub mod State

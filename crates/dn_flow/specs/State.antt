@@ -1,1 +1,3 @@
+pub mod CarryLaws
 pub mod Givings
+pub mod Spreads

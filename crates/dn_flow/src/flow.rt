@@ -1,13 +1,17 @@
 // Puts a flow on canonical arcs back on arc lines.
-ghost use Rattle.std.specs.Prelude.{◌≡◌, ◌≤◌, length, take, drop, IfSome, IsTrue, OnErr, OnOk, ◌↔◌, ◌≢◌, ◌⊎◌};
+ghost use Rattle.std.specs.Prelude.{◌≡◌, ◌≢◌, ◌⊎◌, ◌↔◌, ◌≤◌, ◌-◌, ◌^◌, ℤ, pos, ◌≤ℤ◌, List, [], ◌∷◌, length, take, drop, IfSome, IsSome, IsTrue, OnErr, OnOk};
+ghost use Rattle.std.specs.List.{AllByRecursion, IsDistinct};
 ghost use Rattle.std.specs.List.Sorted.{IsStrictlySortedBy};
 ghost use Rattle.std.specs.Map.{keys_of};
-ghost use Rattle.dn_arc_theory.specs.Pairs.{pair_cmp};
+ghost use Rattle.dn_arc_theory.specs.Pairs.{pair_cmp, same_pair};
 ghost use Rattle.dn_arc_theory.specs.Splits.{total};
+ghost use Rattle.dn_arc_theory.specs.State.Bundles.{meant};
+ghost use Rattle.dn_arc_lines.specs.declared.arc_line.ArcLine.{ArcLine};
 ghost use Rattle.dn_instance.specs.State.Helds.{pair_count};
-ghost use Rattle.dn_flow.specs.Spreads.{AreAscending, AreLines, IsCompanion, IsSpread, LacksRoom, Spreads, pair_of};
-ghost use Rattle.dn_flow.specs.State.Givings.{AreNone, Fills, Gives, GivesLine};
+ghost use Rattle.dn_flow.specs.State.Spreads.{AreAscending, AreLines, CanSpread, CanSpreadOn, IsCompanion, IsSpread, LacksRoom, Spreads, pair_of};
+ghost use Rattle.dn_flow.specs.State.Givings.{AreBalanced, AreFilled, AreNone, Fills, Fits, Gives, GivesLine};
 
+use crate::ahead::Ahead;
 use crate::carries::Carries;
 use crate::share::{PairShare, take};
 use dn_arc_lines::ArcLine;
@@ -46,6 +50,8 @@ pub fn spread(
 ) -> Result<(), SpreadFault>
     ensures lines { OnOk result (AreLines held.now.lines lines.now) }
     ensures ok { OnOk result (Spreads form held.now.contents flow.now lines.now units.new) }
+    ensures no_flow { (result ≡ Err SpreadFault.NotAFlow) → AreLines held.now.lines lines.now
+        → CanSpreadOn form held.now.contents flow.now lines.now → ⊥ }
     ensures no_graph { (result ≡ Err SpreadFault.NoGraph) ↔ IsCompanion held.now.contents }
     ensures no_room { (result ≡ Err SpreadFault.NoRoom) → LacksRoom (pair_count held.now.contents) (length shares.old)
         (length lines.now) (length units.old) }
@@ -62,14 +68,14 @@ pub fn spread(
 
 // Whether these are as many lines, in the order of a text.
 fn are_lines(lines: &[ArcLine], count: i64) -> bool
-    ensures { IsTrue result → AreLines count lines.now }
+    ensures { IsTrue result ↔ AreLines count lines.now }
 {
     lines.len() as i128 == count as i128 && are_ascending(lines)
 }
 
 // Whether the numbers of the lines ascend.
 fn are_ascending(lines: &[ArcLine]) -> bool
-    ensures { IsTrue result → AreAscending 0 lines.now }
+    ensures { IsTrue result ↔ AreAscending 0 lines.now }
 {
     let mut last = 0;
     for line in lines {
@@ -96,25 +102,37 @@ fn spread_over<B: Carries>(
     ensures no_room { (result ≡ Err SpreadFault.NoRoom)
         → LacksRoom (length table.now) (length shares.old) (length lines.now) (length units.old) }
     ensures kept { (result ≡ Err SpreadFault.NoRoom) → units.new ≡ units.old }
-    ensures ok { OnOk result (IsSpread B.line_bounds (B.bundle.listed form) table.now flow.now lines.now units.new) }
+    ensures ok { OnOk result (IsSpread (λ line. B.carried (B.line_arc line)) (B.bundle.listed form) table.now flow.now
+        lines.now units.new) }
+    ensures no_flow { (result ≡ Err SpreadFault.NotAFlow) → AreLines count lines.now
+        → CanSpread B.bundle.kind B.line_arc B.carried (B.bundle.listed form) (meant B.bundle) table.now flow.now lines.now
+        → ⊥ }
 {
     if shares.len() < table.len() || units.len() != lines.len() {
         return Err(SpreadFault::NoRoom);
     }
-    if !are_lines(lines, count) || !fill(table, form, flow, shares) {
+    if !are_lines(lines, count) {
         return Err(SpreadFault::NotAFlow);
     }
-    if give(table, lines, shares, units) && are_none(&shares[..table.len()]) {
-        Ok(())
-    } else {
-        Err(SpreadFault::NotAFlow)
+    if !fill(table, form, flow, shares) {
+        return Err(SpreadFault::NotAFlow);
     }
+    if !give(table, lines, shares, units) {
+        return Err(SpreadFault::NotAFlow);
+    }
+    if !are_none(&shares[..table.len()]) {
+        return Err(SpreadFault::NotAFlow);
+    }
+    Ok(())
 }
 
 // Fills the shares of all pairs from the flow. Returns whether the flow fits them.
 fn fill<B: Carries>(table: &Table<B>, form: Form, flow: &[i64], shares: &mut [PairShare]) -> bool
     requires { length table.now ≤ length shares.old }
     ensures fills { IsTrue result → Fills (B.bundle.listed form) table.now flow.now shares.new }
+    ensures all { (arcs : List ((ℤ × ℤ) × B.Arc))
+        → Fits B.bundle.kind B.carried (B.bundle.listed form) (meant B.bundle) table.now flow.now arcs
+        → IsTrue result × AreFilled B.carried table.now shares.new arcs }
     ensures kept { length shares.new ≡ length shares.old }
     ensures ascending { IsStrictlySortedBy pair_cmp (keys_of table.now) }
 {
@@ -140,6 +158,8 @@ fn sum_of(flow: &[i64], count: u64) -> Option<(i64, &[i64])>
     ensures whole { IfSome result (λ r. length (take count flow.now) ≡ count) }
     ensures sum { IfSome result (λ r. r.0 ≡ total (take count flow.now)) }
     ensures rest { IfSome result (λ r. r.1.now ≡ drop count flow.now) }
+    ensures some { length (take count flow.now) ≡ count → AllByRecursion (λ u. pos 0 ≤ℤ u) (take count flow.now)
+        → total (take count flow.now) ≤ℤ pos (2 ^ 63 - 1) → IsSome result }
 {
     if (flow.len() as u64) < count {
         return None;
@@ -151,7 +171,8 @@ fn sum_of(flow: &[i64], count: u64) -> Option<(i64, &[i64])>
 
 // Returns the sum of these numbers, if none is negative, and the sum is below 2^63.
 fn sum(numbers: &[i64]) -> Option<i64>
-    ensures { IfSome result (λ r. r ≡ total numbers.now) }
+    ensures sum { IfSome result (λ r. r ≡ total numbers.now) }
+    ensures some { AllByRecursion (λ u. pos 0 ≤ℤ u) numbers.now → total numbers.now ≤ℤ pos (2 ^ 63 - 1) → IsSome result }
 {
     let mut sum: i64 = 0;
     for number in numbers {
@@ -172,21 +193,27 @@ fn give<B: Carries>(
 ) -> bool
     requires pairs { length table.now ≤ length shares.old }
     requires lines { length lines.now ≡ length units.old }
-    ensures gives { IsTrue result → Gives B.line_bounds (keys_of table.now) shares.old lines.now units.new shares.new }
+    ensures gives { IsTrue result → Gives (λ line. B.carried (B.line_arc line)) (keys_of table.now) shares.old lines.now
+        units.new shares.new }
+    ensures all { IsDistinct same_pair (keys_of table.now)
+        → AreBalanced (λ line. B.carried (B.line_arc line)) (keys_of table.now) shares.old lines.now
+        → IsTrue result × AreBalanced (λ line. B.carried (B.line_arc line)) (keys_of table.now) shares.new [] }
     ensures kept { length shares.new ≡ length shares.old }
 {
-    let mut near = 0;
+    let mut ahead = Ahead::new();
     for i in 0..lines.len() {
+        let mut near = ahead.next(table, &lines[i..]);
         let Some(some) = give_line(table, &lines[i], &mut near, shares) else {
             return false;
         };
+        ahead.pass(near);
         units[i] = some;
     }
     true
 }
 
-// Gives a line its part of the share of its pair, and returns its units. The pair is likely to be at `near`, where that of
-// the next line is likely to be then.
+// Gives a line its part of the share of its pair, and returns its units. The pair is likely to be at `near`, which is then
+// the position after it.
 fn give_line<B: Carries>(
     table: &Table<B>,
     line: &ArcLine,
@@ -194,7 +221,11 @@ fn give_line<B: Carries>(
     shares: &mut [PairShare],
 ) -> Option<i64>
     requires pairs { length table.now ≤ length shares.old }
-    ensures gives { IfSome result (λ u. GivesLine B.line_bounds (keys_of table.now) shares.old line.now u shares.new) }
+    ensures gives { IfSome result (λ u. GivesLine (λ line. B.carried (B.line_arc line)) (keys_of table.now) shares.old
+        line.now u shares.new) }
+    ensures all { (lines : List ArcLine) → IsDistinct same_pair (keys_of table.now)
+        → AreBalanced (λ line. B.carried (B.line_arc line)) (keys_of table.now) shares.old (line.now ∷ lines)
+        → IsSome result × AreBalanced (λ line. B.carried (B.line_arc line)) (keys_of table.now) shares.new lines }
     ensures kept { length shares.new ≡ length shares.old }
 {
     let arc = B::bounds(line);
@@ -217,7 +248,7 @@ fn pair_of(line: &ArcLine) -> (i64, i64)
 
 // Whether no share has units left.
 fn are_none(shares: &[PairShare]) -> bool
-    ensures { IsTrue result → AreNone shares.now }
+    ensures { IsTrue result ↔ AreNone shares.now }
 {
     for share in shares {
         if share.left != 0 {

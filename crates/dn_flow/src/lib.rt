@@ -2,10 +2,11 @@
 //! has its lower bound, and the rest goes to the cheapest, and among equal ones to the first. The time is linear but for
 //! a search for the pair of each line, and nothing is allocated.
 //!
-//! `lines` says what a line can carry, `share` is what a pair has left for its lines, and `flow` fills the shares from
-//! the flow and gives them to the lines.
+//! `carries` says what a line of each kind can carry, `share` is what a pair has left for its lines, and `flow` fills the
+//! shares from the flow and gives them to the lines, whose pairs `ahead` looks for.
 #![tactic(auto)]
 
+mod ahead;
 pub mod carries;
 pub mod flow;
 pub mod share;

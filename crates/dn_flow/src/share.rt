@@ -1,6 +1,9 @@
 // What the lines of a pair have left to share.
-ghost use Rattle.std.specs.Prelude.{IfSome, pos, ◌≤ℤ◌};
-ghost use Rattle.dn_flow.specs.State.Givings.{HasPart, Takes};
+ghost use Rattle.std.specs.Prelude.{◌∷◌, IfSome, IsSome, List, pos, ◌≤ℤ◌};
+ghost use Rattle.std.specs.List.{AllByRecursion};
+ghost use Rattle.dn_arc_theory.specs.Canonical.{IsCostArc};
+ghost use Rattle.dn_arc_theory.specs.declared.arc.CostArc.{CostArc};
+ghost use Rattle.dn_flow.specs.State.Givings.{HasPart, IsBalanced, Takes};
 
 use dn_arc_theory::CostArc;
 
@@ -19,7 +22,9 @@ pub struct PairShare {
 // Takes the units of the next line of the pair, and returns them, or `None` if the line has no room for its part, or the
 // pair too few units for it.
 pub(crate) fn take(share: &mut PairShare, line: &CostArc) -> Option<i64>
-    ensures { IfSome result (λ u. Takes share.old line.now u share.new) }
+    ensures takes { IfSome result (λ u. Takes share.old line.now u share.new) }
+    ensures balanced { (lines : List CostArc) → IsCostArc line.now → AllByRecursion IsCostArc lines
+        → IsBalanced share.old (line.now ∷ lines) → IsSome result × IsBalanced share.new lines }
 {
     if line.low < 0 || line.cap < line.low {
         return None;

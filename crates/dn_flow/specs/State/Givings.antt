@@ -1,12 +1,17 @@
 -- How the shares of pairs are filled from a flow, and given to lines.
-use Rattle.std.specs.Prelude.{◌≡◌, ◌⊎◌, ℕ, ◌<◌, ℤ, pos, ◌+ℤ◌, ◌-ℤ◌, ◌≤ℤ◌, ◌<ℤ◌, List, [], ◌∷◌, length, set, take, drop, map, slice_get, Some, false}
+use Rattle.std.specs.Prelude.{◌≡◌, ◌≢◌, ◌⊎◌, ◌-◌, ◌^◌, ℕ, ◌<◌, ℤ, pos, ◌+ℤ◌, ◌-ℤ◌, ◌≤ℤ◌, ◌<ℤ◌, List, [], ◌∷◌, length, set, take, drop, map, slice_get, Option, Some, None, MatchOption, Bool, cond, int_lt, get_or, false}
 use Rattle.std.specs.List.{AllByRecursion, list_any}
-use Rattle.dn_arc_theory.specs.Pairs.{same_pair}
-use Rattle.dn_arc_theory.specs.Splits.{total}
+use Rattle.std.specs.Ordering.{int_eq}
+use Rattle.dn_arc_theory.specs.Canonical.{IsCostArc}
+use Rattle.dn_arc_theory.specs.Fillings.{forced_units}
+use Rattle.dn_arc_theory.specs.Kinds.{ArcKind}
+use Rattle.dn_arc_theory.specs.State.FillCosts.{room, free_room}
+use Rattle.dn_arc_theory.specs.Pairs.{bundle, same_pair}
+use Rattle.dn_arc_theory.specs.Splits.{IsSplit, total}
 use Rattle.dn_arc_theory.specs.declared.arc.CostArc.{CostArc}
 use Rattle.dn_arc_lines.specs.declared.arc_line.ArcLine.{ArcLine}
 use Rattle.pair_index.specs.State.Positions.{key_at}
-use Rattle.dn_flow.specs.Spreads.{pair_of}
+use Rattle.dn_flow.specs.State.Spreads.{arcs_by, pair_of}
 use Rattle.dn_flow.specs.declared.share.PairShare.{PairShare}
 
 -- the units that the lines of each pair have yet to get
@@ -22,6 +27,9 @@ pub record HasPart (old : PairShare) (line : CostArc) (u rest : ℤ) : Type 0 wh
   pub last : line.cost ≡ old.cost → (u ≡ line.cap) ⊎ (rest ≤ℤ pos 0)
   pub none : line.cost ≡ old.cost → old.rest ≤ℤ pos 0 → u ≡ line.low
   pub over : old.rest ≤ℤ pos 0 → rest ≤ℤ pos 0
+  pub same : line.cost ≢ old.cost → rest ≡ old.rest
+  pub moved : line.cost ≡ old.cost → (u +ℤ rest) ≡ (line.low +ℤ old.rest)
+  pub enough : pos 0 ≤ℤ old.rest → pos 0 ≤ℤ rest
 
 -- a line takes these units of the share of its pair
 pub record Takes (old : PairShare) (line : CostArc) (u : ℤ) (new : PairShare) : Type 0 where
@@ -55,3 +63,66 @@ Fills lists (e ∷ table) flow (s ∷ shares) =
 -- no share has units left
 abbrev pub AreNone : List PairShare → Type 0
 AreNone shares = AllByRecursion (λ (s : PairShare). s.left ≡ pos 0) shares
+
+-- the free capacity of the arcs whose cost passes the test
+abbrev pub rooms_by : (ℤ → Bool) → List CostArc → ℤ
+rooms_by test [] = pos 0
+rooms_by test (a ∷ rest) = cond (test a.cost) (room a) (pos 0) +ℤ rooms_by test rest
+
+-- that of the arcs that cost less than this, and of those that cost this
+abbrev pub rooms_below : ℤ → List CostArc → ℤ
+rooms_below c arcs = rooms_by (λ cost. int_lt cost c) arcs
+
+abbrev pub rooms_at : ℤ → List CostArc → ℤ
+rooms_at c arcs = rooms_by (λ cost. int_eq cost c) arcs
+
+-- the share has what these lines of its pair take, in their order
+pub record IsBalanced (s : PairShare) (lines : List CostArc) : Type 0 where
+  pub left : s.left ≡ forced_units lines +ℤ (rooms_below s.cost lines +ℤ s.rest)
+  pub some : pos 0 ≤ℤ s.rest
+  pub fits : s.rest ≤ℤ rooms_at s.cost lines
+
+-- there is a share, which has what these lines take
+abbrev pub SharesOut : List CostArc → Option PairShare → Type 0
+SharesOut lines share = MatchOption share ⊥ (λ s. IsBalanced s lines)
+
+-- the share at a position
+abbrev pub share_at : List PairShare → ℕ → PairShare
+share_at shares i = get_or shares i (record { cost = pos 0; rest = pos 0; left = pos 0 })
+
+-- each share has what the lines of its pair take, and the lines of pairs without a share have no room
+pub record AreBalanced (bounds : ArcLine → CostArc) (keys : List (ℤ × ℤ)) (shares : List PairShare)
+    (lines : List ArcLine) : Type 0 where
+  pub each : AllByRecursion (λ line. IsCostArc (bounds line)) lines
+  pub shares_are : (i : ℕ) → i < length keys
+      → IsBalanced (share_at shares i) (bundle (key_at keys i) (arcs_by bounds lines))
+  pub others : AllByRecursion (λ line. list_any (same_pair (pair_of line)) keys ≡ false
+      → ((bounds line).low ≡ pos 0) × ((bounds line).cap ≡ pos 0)) lines
+
+-- the step of a curve up to which these units fill it, beyond its forced units
+abbrev pub IsAtStep : ℤ → List CostArc → ℤ → PairShare → Type 0
+IsAtStep forced free units s =
+    ((free ≡ []) × (s.rest ≡ pos 0) × (units ≡ forced))
+    ⊎ ((i : ℕ) × (a : CostArc) × (slice_get free i ≡ Some a) × (s.cost ≡ a.cost)
+    × ((s.rest +ℤ free_room (take i free)) ≡ (units -ℤ forced)) × (s.rest ≤ℤ room a)
+    × ((i ≡ 0) ⊎ (pos 0 <ℤ s.rest)))
+
+module _ {Arc : Type 0} (kind : ArcKind Arc) (carried : Arc → CostArc) where
+  -- the flow on the arcs of each pair can be split among these arcs, which mean the same
+  abbrev pub Fits : {B : Type 0} → (B → List Arc) → (B → List Arc) → List ((ℤ × ℤ) × B) → List ℤ
+      → List ((ℤ × ℤ) × Arc) → Type 0
+  Fits lists meant [] flow arcs = flow ≡ []
+  Fits lists meant (e ∷ table) flow arcs =
+      let first = take (length (lists e.1)) flow in
+      (length first ≡ length (lists e.1)) × AllByRecursion (λ u. pos 0 ≤ℤ u) first × (total first ≤ℤ pos (2 ^ 63 - 1))
+      × AllByRecursion kind.IsArc (bundle e.0 arcs) × kind.Same (bundle e.0 arcs) (meant e.1)
+      × ((xs : List ℤ) × IsSplit (map carried (bundle e.0 arcs)) (total first) xs)
+      × Fits lists meant table (drop (length (lists e.1)) flow) arcs
+
+-- the share of each pair has what its arcs take
+abbrev pub AreFilled : {B Arc : Type 0} → (Arc → CostArc) → List ((ℤ × ℤ) × B) → List PairShare
+    → List ((ℤ × ℤ) × Arc) → Type 0
+AreFilled carried [] shares arcs = Unit {0}
+AreFilled carried (e ∷ table) [] arcs = ⊥
+AreFilled carried (e ∷ table) (s ∷ shares) arcs =
+    IsBalanced s (map carried (bundle e.0 arcs)) × AreFilled carried table shares arcs

@@ -1,10 +1,16 @@
 -- A flow on the arc lines of a text that is the same as one on canonical arcs (this project's profile; the formats of the
 -- First DIMACS Challenge let parallel arcs carry any units between their lower bounds and capacities).
 use Rattle.std.specs.Prelude.{◌≡◌, ◌≢◌, ◌⊎◌, ◌-◌, ◌^◌, ℕ, ◌<◌, ℤ, pos, ◌+ℤ◌, ◌≤ℤ◌, ◌<ℤ◌, List, [], ◌∷◌, length, map, cond}
-use Rattle.dn_arc_theory.specs.Pairs.{same_pair}
+use Rattle.std.specs.List.{AllByRecursion}
+use Rattle.dn_arc_theory.specs.Kinds.{ArcKind, lengths, capacities, costs}
+use Rattle.dn_arc_theory.specs.Pairs.{bundle, same_pair}
 use Rattle.dn_arc_theory.specs.Splits.{AreShares}
+use Rattle.dn_arc_theory.specs.declared.arc.LengthArc.{LengthArc}
+use Rattle.dn_arc_theory.specs.declared.arc.CapArc.{CapArc}
 use Rattle.dn_arc_theory.specs.declared.arc.CostArc.{CostArc}
 use Rattle.dn_arc_theory.specs.declared.arc.Form.{Form}
+use Rattle.dn_arc_theory.specs.declared.arc.Form.TheVariants.{One}
+use Rattle.dn_table.specs.State.Tables.{listed_at}
 use Rattle.dn_arc_lines.specs.declared.arc_line.ArcLine.{ArcLine}
 use Rattle.dn_bundle.specs.State.Listings.{least_arcs, total_arcs, curve_arcs}
 use Rattle.dn_canon.specs.State.ListedArcs.{listed_arcs}
@@ -24,16 +30,39 @@ pub record AreLines (count : ℤ) (lines : List ArcLine) : Type 0 where
   pub all : pos (length lines) ≡ count
   pub ascending : AreAscending 0 lines
 
--- the lower bound, the capacity and the cost of a unit of a line: each line of an `sp` graph carries any units that fit
--- 64 bits, at its length
+-- the arc of a line, by kind
+abbrev pub length_line : ArcLine → LengthArc
+length_line line = record { length = line.a }
+
+abbrev pub cap_line : ArcLine → CapArc
+cap_line line = record { cap = line.a }
+
+abbrev pub cost_line : ArcLine → CostArc
+cost_line line = record { low = line.a; cap = line.b; cost = line.c }
+
+-- the lower bound, the capacity and the cost of a unit of an arc: each arc of an `sp` graph carries any units that fit 64
+-- bits, at its length
+abbrev pub length_carried : LengthArc → CostArc
+length_carried a = record { low = pos 0; cap = pos (2 ^ 63 - 1); cost = a.length }
+
+abbrev pub cap_carried : CapArc → CostArc
+cap_carried a = record { low = pos 0; cap = a.cap; cost = pos 0 }
+
+abbrev pub cost_carried : CostArc → CostArc
+cost_carried a = a
+
 abbrev pub length_bounds : ArcLine → CostArc
-length_bounds line = record { low = pos 0; cap = pos (2 ^ 63 - 1); cost = line.a }
+length_bounds line = length_carried (length_line line)
 
 abbrev pub cap_bounds : ArcLine → CostArc
-cap_bounds line = record { low = pos 0; cap = line.a; cost = pos 0 }
+cap_bounds line = cap_carried (cap_line line)
 
 abbrev pub cost_bounds : ArcLine → CostArc
-cost_bounds line = record { low = line.a; cap = line.b; cost = line.c }
+cost_bounds line = cost_carried (cost_line line)
+
+-- the arcs of lines, each at its pair
+abbrev pub arcs_by : {Arc : Type 0} → (ArcLine → Arc) → List ArcLine → List ((ℤ × ℤ) × Arc)
+arcs_by arc lines = map (λ line. (pair_of line, arc line)) lines
 
 -- the units of the pair p: the sum of those that have this pair
 abbrev pub units_at : ℤ × ℤ → List (ℤ × ℤ) → List ℤ → ℤ
@@ -68,6 +97,28 @@ pub record IsSpread {B Arc : Type 0} (bounds : ArcLine → CostArc) (lists : B �
   pub within : AreShares (map bounds lines) units
   pub same : (p : ℤ × ℤ) → units_at p (map pair_of lines) units ≡ units_at p (map (λ a. a.0) (listed_arcs lists table)) flow
   pub cheapest : AreInOrder bounds lines units
+
+-- the lines mean what the table does, and some units of them are the flow, which has a number of at least 0 for each arc,
+-- and for each pair units that fit 64 bits
+pub record CanSpread {B Arc : Type 0} (kind : ArcKind Arc) (arc : ArcLine → Arc) (carried : Arc → CostArc)
+    (lists meant : B → List Arc) (table : List ((ℤ × ℤ) × B)) (flow : List ℤ) (lines : List ArcLine) : Type 0 where
+  pub each : AllByRecursion (λ line. kind.IsArc (arc line)) lines
+  pub meaning : (p : ℤ × ℤ) → kind.Same (bundle p (arcs_by arc lines)) (listed_at meant table p)
+  pub whole : length flow ≡ length (listed_arcs lists table)
+  pub some : AllByRecursion (λ u. pos 0 ≤ℤ u) flow
+  pub fits : (p : ℤ × ℤ) → units_at p (map (λ a. a.0) (listed_arcs lists table)) flow ≤ℤ pos (2 ^ 63 - 1)
+  pub units : List ℤ
+  pub within : AreShares (map (λ line. carried (arc line)) lines) units
+  pub same : (p : ℤ × ℤ) → units_at p (map pair_of lines) units
+      ≡ units_at p (map (λ a. a.0) (listed_arcs lists table)) flow
+
+-- the same by the kind of the instance
+abbrev pub CanSpreadOn : Form → Contents → List ℤ → List ArcLine → Type 0
+CanSpreadOn form (OfMin flows table) =
+    CanSpread costs cost_line cost_carried (curve_arcs form) (curve_arcs One) table
+CanSpreadOn form (OfMax source sink table) = CanSpread capacities cap_line cap_carried total_arcs total_arcs table
+CanSpreadOn form (OfSp table) = CanSpread lengths length_line length_carried least_arcs least_arcs table
+CanSpreadOn form _ = λ flow lines. ⊥
 
 -- the same by the kind of the instance; a companion has no arcs
 abbrev pub Spreads : Form → Contents → List ℤ → List ArcLine → List ℤ → Type 0
