@@ -1,9 +1,8 @@
 -- Where some units of lines are a flow, the lines take it all.
-use Rattle.std.proofs.Common.{inl, inr, IsTrue, ◌≡◌, ◌⊎◌, ℕ, zero, suc, ◌+◌, ◌-◌, ◌^◌, ◌<◌, ◌≤◌, ℤ, pos, ◌+ℤ◌, ◌≤ℤ◌, ◌<ℤ◌, List, [], ◌∷◌, ◌++◌, length, take, drop, map, Bool, true, false, cond, nat_eq, Option, Some, None, slice_get, length-take-le, refl, sym, ap, ◌∙◌, subst, arith}
-use Rattle.std.specs.Prelude.{set, get_or}
+use Rattle.std.proofs.Common.{inl, inr, ◌≡◌, ℕ, zero, suc, ◌<◌, ◌≤◌, ℤ, pos, ◌+ℤ◌, ◌≤ℤ◌, List, [], ◌∷◌, length, take, drop, map, true, false, cond, nat_eq, None, length-take-le, refl, sym, ap, ◌∙◌, subst, arith}
+use Rattle.std.specs.Prelude.{set}
 use Rattle.std.specs.List.{AllByRecursion, IsDistinct, list_any}
 use Rattle.std.specs.Map.{keys_of, lookup}
-use Rattle.std.specs.Int.Signed.{≤ℤ_refl}
 use Rattle.std.proofs.lemmas.Bool.{cases_Bool}
 use Rattle.std.proofs.lemmas.Bool.Decides.{nat_tests}
 use Rattle.std.proofs.lemmas.Int.{ints}
@@ -12,7 +11,7 @@ use Rattle.std.proofs.lemmas.Map.Keys.{IsDistinct-head, IsDistinct-tail}
 use Rattle.dn_arc_theory.specs.Canonical.{IsCostArc}
 use Rattle.dn_arc_theory.specs.Kinds.{ArcKind}
 use Rattle.dn_arc_theory.specs.Pairs.{bundle, same_pair}
-use Rattle.dn_arc_theory.specs.Splits.{AreShares, IsSplit, total}
+use Rattle.dn_arc_theory.specs.Splits.{AreShares, total}
 use Rattle.dn_arc_theory.specs.declared.arc.CostArc.{CostArc}
 use Rattle.dn_arc_theory.proofs.PairLaws.{pair_is, pair_self}
 use Rattle.dn_arc_lines.specs.declared.arc_line.ArcLine.{ArcLine}
@@ -23,7 +22,7 @@ use Rattle.pair_index.specs.State.Positions.{key_at}
 use Rattle.dn_flow.specs.State.Spreads.{CanSpread, arcs_by, pair_of, units_at}
 use Rattle.dn_flow.specs.State.Givings.{AreBalanced, AreFilled, AreNone, Fits, IsBalanced, share_at}
 use Rattle.dn_flow.specs.declared.share.PairShare.{PairShare}
-use Rattle.dn_flow.proofs.SpreadLaws.{flow_length, one_position, placed_units, units_append, unlisted}
+use Rattle.dn_flow.proofs.SpreadLaws.{one_position, placed_units, units_append, unlisted}
 
 -- what holds of each arc of a list holds of those of a pair
 bundle_each : {Arc : Type 0} (P : Arc → Type 0) (arc : ArcLine → Arc) (p : ℤ × ℤ) (lines : List ArcLine)

@@ -1,5 +1,5 @@
 -- What the lines of a pair share of a flow that can be split among them.
-use Rattle.std.proofs.Common.{inl, inr, ◌≡◌, ◌⊎◌, ℕ, zero, suc, ◌+◌, ◌-◌, ◌^◌, ◌<◌, ◌≤◌, ℤ, pos, ◌+ℤ◌, ◌-ℤ◌, ◌≤ℤ◌, ◌<ℤ◌, List, [], ◌∷◌, ◌++◌, length, take, map, filter, Bool, true, false, cond, int_lt, int_eq, Option, Some, None, slice_get, IfSome, IsSome, MatchOption, refl, sym, ap, ◌∙◌, subst, arith}
+use Rattle.std.proofs.Common.{inl, inr, ◌≡◌, ℕ, zero, suc, ◌+◌, ◌-◌, ◌^◌, ◌<◌, ℤ, pos, ◌+ℤ◌, ◌-ℤ◌, ◌≤ℤ◌, ◌<ℤ◌, List, [], ◌∷◌, ◌++◌, length, take, map, filter, Bool, true, false, cond, int_lt, int_eq, Option, Some, None, slice_get, IfSome, MatchOption, refl, sym, ap, ◌∙◌, subst, arith}
 use Rattle.std.proofs.lemmas.Bool.{cases_Bool}
 use Rattle.std.proofs.Common.{FitsSigned, to_z, of_z, w64, drop, slice_index_or}
 use Rattle.std.proofs.lemmas.Int.{by_lt_z, ints, to_z-of_z}
@@ -7,7 +7,7 @@ use Rattle.std.proofs.lemmas.List.{drop_more}
 use Rattle.dn_arc_theory.proofs.MeansLaws.{fits_some}
 use Rattle.std.specs.List.{AllByRecursion}
 use Rattle.std.specs.Int.Signed.{≤ℤ_refl}
-use Rattle.dn_arc_theory.specs.Canonical.{AreAscending, IsCapArc, IsCostArc, IsFixedArc, IsFormOne, IsFreeArc}
+use Rattle.dn_arc_theory.specs.Canonical.{AreAscending, IsCostArc, IsFixedArc, IsFormOne, IsFreeArc}
 use Rattle.dn_arc_theory.specs.Capacities.{total_cap}
 use Rattle.dn_arc_theory.specs.Fillings.{forced_units}
 use Rattle.dn_arc_theory.specs.Lengths.{HasLength, LeastLength}
@@ -25,7 +25,6 @@ use Rattle.dn_arc_theory.specs.declared.arc.CostArc.{CostArc}
 use Rattle.dn_arc_theory.proofs.CanonsLaws.{arc_steps, eq_below, eq_past, eq_yes, same_canon}
 use Rattle.dn_arc_theory.proofs.FormsLaws.{form_one_arcs}
 use Rattle.dn_arc_theory.proofs.PartsLaws.{test_yes, test_no}
-use Rattle.dn_arc_theory.proofs.TotalKindLaws.{total_some}
 use Rattle.dn_flow.specs.State.Spreads.{cap_carried, cost_carried, length_carried}
 use Rattle.dn_flow.specs.State.Givings.{HasPart, IsAtStep, IsBalanced, SharesOut, rooms_at, rooms_below, rooms_by}
 use Rattle.dn_flow.specs.declared.share.PairShare.{PairShare}

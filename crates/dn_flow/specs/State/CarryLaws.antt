@@ -1,5 +1,5 @@
 -- Laws of what the arcs of each kind can carry, which the bundles give as laws of their own.
-use Rattle.std.proofs.Common.{inl, inr, ◌≡◌, ◌-◌, ◌^◌, ℤ, pos, ◌+ℤ◌, ◌≤ℤ◌, ◌<ℤ◌, List, [], ◌∷◌, true, false, int_lt, refl, arith}
+use Rattle.std.proofs.Common.{inl, inr, ◌≡◌, ℤ, pos, ◌≤ℤ◌, ◌<ℤ◌, List, [], ◌∷◌, int_lt, refl, arith}
 use Rattle.std.proofs.lemmas.Bool.{cases_Bool}
 use Rattle.std.proofs.lemmas.Int.{by_lt_z, ints}
 use Rattle.std.specs.List.{AllByRecursion}

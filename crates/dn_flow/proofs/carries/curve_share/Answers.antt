@@ -1,13 +1,11 @@
-use Rattle.std.proofs.Common.{rules, inl, inr, ◌≡◌, ◌<◌, ◌+◌, ◌-◌, ◌^◌, suc, ℤ, pos, ◌+ℤ◌, ◌-ℤ◌, ◌≤ℤ◌, ◌<ℤ◌, FitsSigned, Some, None, filter, length, slice_get, take, refl, sym, ap, ◌∙◌, subst, arith, to_z, of_z, w64, false, true}
+use Rattle.std.proofs.Common.{rules, inl, inr, ◌≡◌, ◌+◌, ◌-◌, ◌^◌, suc, pos, ◌-ℤ◌, ◌≤ℤ◌, filter, length, take, refl, sym, ap, ◌∙◌, arith, to_z, of_z, w64}
 use Rattle.std.proofs.lemmas.Int.{ints, to_z-of_z}
 use Rattle.std.proofs.lemmas.List.{nil_from_length, take_all}
-use Rattle.std.proofs.lemmas.Option.{slice_get_within}
-use Rattle.dn_arc_theory.specs.Fillings.{forced_units}
 use Rattle.dn_arc_theory.specs.State.CurveListed.{is_free, step_arc}
-use Rattle.dn_arc_theory.specs.State.FillCosts.{free_room, room}
+use Rattle.dn_arc_theory.specs.State.FillCosts.{free_room}
 use Rattle.dn_arc_theory.proofs.MeansLaws.{fits_some}
 use Rattle.dn_bundle.specs.State.Listings.{form_one_arcs}
-use Rattle.dn_bundle.proofs.StepLaws.{less, not_less}
+use Rattle.dn_bundle.proofs.StepLaws.{not_less}
 use Rattle.dn_flow.proofs.ShareLaws.{nil_room, none_past, room_more, sound_low, sound_room, sub_from}
 use Rattle.dn_flow.proofs.carries.curve_share.Goals as goal
 

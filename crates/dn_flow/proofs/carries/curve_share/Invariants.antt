@@ -1,4 +1,4 @@
-use Rattle.std.proofs.Common.{◌≡◌, ◌⊎◌, ℤ, pos, ◌+ℤ◌, ◌-ℤ◌, ◌≤ℤ◌, ◌<ℤ◌, filter, take}
+use Rattle.std.proofs.Common.{◌≡◌, ◌⊎◌, pos, ◌+ℤ◌, ◌-ℤ◌, ◌≤ℤ◌, ◌<ℤ◌, filter, take}
 use Rattle.dn_arc_theory.specs.Fillings.{forced_units}
 use Rattle.dn_arc_theory.specs.State.CurveListed.{is_free}
 use Rattle.dn_arc_theory.specs.State.FillCosts.{free_room}

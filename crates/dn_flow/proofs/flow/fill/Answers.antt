@@ -1,4 +1,4 @@
-use Rattle.std.proofs.Common.{rules, ◌≡◌, ℤ, ◌<◌, List, ◌∷◌, IsTrue, length, map, take, drop, to_z, of_z, w64, refl, sym, ap, ◌∙◌, subst, arith}
+use Rattle.std.proofs.Common.{rules, ℤ, ◌<◌, ◌∷◌, IsTrue, length, map, take, drop, w64, refl, sym, ap, ◌∙◌, subst, arith}
 use Rattle.std.proofs.lemmas.Int.{to_z-of_z}
 use Rattle.dn_arc_theory.specs.Pairs.{bundle}
 use Rattle.dn_arc_theory.specs.Splits.{IsSplit, total}

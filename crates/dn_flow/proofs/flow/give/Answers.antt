@@ -1,4 +1,4 @@
-use Rattle.std.proofs.Common.{rules, ◌≡◌, ℕ, ℤ, ◌+◌, ◌<◌, List, [], ◌∷◌, ◌++◌, length, take, drop, slice_index_or, Option, None, IsSome, pos, refl, sym, subst, ◌∙◌, arith, append-nil, take_all, w64}
+use Rattle.std.proofs.Common.{rules, ◌≡◌, ℕ, ℤ, ◌+◌, ◌<◌, List, [], ◌∷◌, length, take, drop, slice_index_or, Option, None, IsSome, pos, refl, subst, ◌∙◌, arith, append-nil, take_all, w64}
 use Rattle.std.proofs.lemmas.Int.{to_z-of_z}
 use Rattle.std.proofs.lemmas.List.{drop_more}
 use Rattle.std.specs.Map.{keys_of}

@@ -1,4 +1,4 @@
-use Rattle.std.proofs.Common.{rules, ◌≡◌, ◌<◌, List, length, ◌∷◌, refl, sym, ap, ◌∙◌, subst, arith}
+use Rattle.std.proofs.Common.{◌<◌, length, ◌∙◌, arith}
 use Rattle.std.specs.Map.{keys_of}
 use Rattle.std.proofs.lemmas.Map.Entries.{length-keys_of}
 use Rattle.dn_arc_theory.specs.Pairs.{bundle}
@@ -6,8 +6,7 @@ use Rattle.dn_arc_theory.specs.declared.arc.CostArc.{CostArc}
 use Rattle.dn_arc_lines.specs.declared.arc_line.ArcLine.{ArcLine}
 use Rattle.pair_index.specs.State.Positions.{key_at}
 use Rattle.dn_flow.specs.State.Spreads.{arcs_by}
-use Rattle.dn_flow.specs.State.Givings.{IsBalanced, share_at}
-use Rattle.dn_flow.proofs.FitLaws.{line_share, line_taken, lines_each, line_passed}
+use Rattle.dn_flow.proofs.FitLaws.{line_share, line_taken, lines_each}
 use Rattle.dn_flow.proofs.flow.give_line.Goals as goal
 
 pub returns-in-Some-clause-all : goal.returns-in-Some-clause-all

@@ -1,4 +1,4 @@
-use Rattle.std.proofs.Common.{rules, IsTrue, ◌≤◌, length, refl, subst, sym, ◌∙◌, take, arith, w64}
+use Rattle.std.proofs.Common.{rules, ◌≤◌, length, refl, subst, sym, ◌∙◌, take, w64}
 use Rattle.std.proofs.lemmas.Int.{to_z-of_z}
 use Rattle.std.specs.Map.{keys_of}
 use Rattle.std.proofs.lemmas.Map.Entries.{length-keys_of}

@@ -1,6 +1,4 @@
-use Rattle.std.proofs.Common.{rules, ◌≡◌, ◌-◌, ◌^◌, ◌<◌, ◌+◌, ℤ, pos, ◌+ℤ◌, ◌≤ℤ◌, FitsSigned, drop, length, slice_index_or, w64, to_z, of_z, arith, ap, sym}
-use Rattle.std.proofs.lemmas.Int.{ints, to_z-of_z}
-use Rattle.dn_arc_theory.proofs.MeansLaws.{fits_some}
+use Rattle.std.proofs.Common.{w64, to_z}
 use Rattle.dn_flow.proofs.ShareLaws.{next_fits}
 use Rattle.dn_flow.proofs.flow.sum.Goals as goal
 

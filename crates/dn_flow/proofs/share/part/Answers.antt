@@ -1,4 +1,4 @@
-use Rattle.std.proofs.Common.{rules, inl, inr, ◌≡◌, ◌-◌, ◌^◌, ℤ, pos, ◌-ℤ◌, ◌≤ℤ◌, FitsSigned, to_z, of_z, w64, ap, ◌∙◌, arith}
+use Rattle.std.proofs.Common.{rules, inl, inr, ◌≡◌, ◌-◌, ◌^◌, pos, ◌-ℤ◌, ◌≤ℤ◌, FitsSigned, to_z, of_z, w64, ap, ◌∙◌, arith}
 use Rattle.std.proofs.lemmas.Int.{ints, to_z-of_z}
 use Rattle.dn_arc_theory.proofs.MeansLaws.{fits_some}
 use Rattle.dn_flow.proofs.ShareLaws.{sub_from}

@@ -1,8 +1,7 @@
-use Rattle.std.proofs.Common.{rules, refl, ◌≡◌, ◌-◌, ◌^◌, ℤ, pos, ◌+ℤ◌, ◌-ℤ◌, ◌≤ℤ◌, to_z, of_z, w64, ap, sym, ◌∙◌, arith, subst}
+use Rattle.std.proofs.Common.{rules, refl, ◌-◌, ◌^◌, pos, ◌-ℤ◌, ◌≤ℤ◌, to_z, of_z, w64, ap, ◌∙◌, arith}
 use Rattle.std.proofs.lemmas.Int.{ints, to_z-of_z}
-use Rattle.dn_bundle.proofs.StepLaws.{less, not_less}
+use Rattle.dn_bundle.proofs.StepLaws.{less}
 use Rattle.dn_flow.proofs.ShareLaws.{balanced_part, sub_from}
-use Rattle.dn_flow.specs.State.Givings.{IsBalanced}
 use Rattle.dn_flow.proofs.share.take.Goals as goal
 
 pub returns-then-share-units-clause-balanced : goal.returns-then-share-units-clause-balanced
