@@ -30,7 +30,9 @@ from shared import ROOT, Answer, bytes_of, links_listed, listed, python_with, ru
 pytestmark = [pytest.mark.slow, pytest.mark.proof, pytest.mark.xdist_group("release")]
 # What the package for Python has besides modules and the suite.
 SHOWN = {f"dnorm/{it}" for it in ["FILES.md", "look.js", "report.html", "report.js"]}
-MAP = text_of(f"{ROOT}/c/dnorm.map")
+# The functions that the shared library exports, each with the release that added it.
+NODES = re.findall(r"^DNORM_(\S+) {(.*?)^}", text_of(f"{ROOT}/c/dnorm.map"), re.M | re.S)
+EXPORTED = sorted(f" {it}@DNORM_{node} {node}.0~" for node, names in NODES for it in re.findall(r"(dnorm_\w+);", names))
 
 
 @pytest.fixture(scope="module")
@@ -555,9 +557,8 @@ def test_packages_of_library(made: Made, port: Port) -> None:
     }
     for it, line in names.items():
         assert text_of(f"{made.folder}/package-{port.shared}-control/{it}").splitlines()[-1] == line, it
-    exported = [f" {it}@DNORM_3.0 3.0.0~" for it in sorted(re.findall(r"^ +(dnorm_\w+);", MAP, re.M))]
     table = text_of(f"{made.folder}/package-{port.shared}-control/symbols").splitlines()
-    assert table[-len(exported) :] == exported and len(exported) == 14, "symbols"
+    assert table[-len(EXPORTED) :] == EXPORTED and len(EXPORTED) == 15, "symbols"
     found = {os.path.relpath(f"{at}/{it}", to) for at, _, files in os.walk(to, followlinks=True) for it in files}
     assert found == wanted, "the files of both packages"
     # Code has brackets, too.
