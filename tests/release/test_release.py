@@ -139,6 +139,11 @@ def test_c_file(made: Made, two: Place, folder: str) -> None:
     assert all(bytes_of(f"{name}/{it}") == bytes_of(f"staged/{it}") for it in all_below("staged"))
 
 
+def test_notes(made: Made, two: Place) -> None:
+    """The notes have the entry of this version, and no other."""
+    assert text_of(f"{two.dist}/dnorm-{made.version}-notes.md") == f"# dnorm {made.version}\n\n- A change.\n"
+
+
 @pytest.fixture(params=range(len(MACHINES)), ids=[it.name for it in MACHINES])
 def port(request: pytest.FixtureRequest, made: Made, two: Place) -> Port:
     """The files of the release for an architecture."""
