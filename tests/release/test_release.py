@@ -580,7 +580,8 @@ def test_packages_of_library(made: Made, port: Port) -> None:
 def least_libc(library: str) -> str:
     """Returns the least version of the C library that has all that a shared library needs."""
     told = run(["readelf", "-W", "--dyn-syms", library]).out.decode()
-    return ".".join(max(re.findall(r"GLIBC_(\d+)\.(\d+)", told), key=lambda it: [*map(int, it)]))
+    versions: list[str] = re.findall(r"GLIBC_([\d.]+)", told)
+    return max(versions, key=lambda it: [*map(int, it.split("."))])
 
 
 def parts(made: Made, script: str) -> None:
