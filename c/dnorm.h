@@ -59,11 +59,11 @@ extern "C" {
 
        1   libdnorm.so.1   1.2 and 1.3
        2   libdnorm.so.2   2.0
-       3   libdnorm.so.3   3.0 */
+       3   libdnorm.so.3   3.0 and 3.1 */
 #define DNORM_ABI 3
 
 /* The version of this file: 10000 times its first number, 100 times its second, and its third. */
-#define DNORM_VERSION 30000
+#define DNORM_VERSION 30100
 
 /* Owns nothing, a reader, an instance, a refusal, a canonical text, or a reader of arc lines. Its members are the
    library's. */

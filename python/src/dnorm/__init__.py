@@ -33,7 +33,7 @@ from .records import Contents, Range, Record
 from .refusals import REFUSALS
 
 # The version of the program that this package belongs to, as Python packages spell it.
-__version__ = "3.0.0"
+__version__ = "3.1.0"
 
 __all__ = [
     "ArcLines", "Changes", "Checked", "Co", "Collection", "Column", "Contents", "Difference", "Differences",
