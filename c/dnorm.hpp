@@ -171,16 +171,13 @@ template <typename Index, typename Number> struct StarOf : ColumnsOf<Number> {
     // Finds the arcs into each node. A star that was moved from has none.
     void reverse() {
         const std::vector<Number> &all = this->heads;
-        into_first.assign(first.size(), 0);
+        into_first.resize(first.size());
         into.resize(all.size());
         if (first.empty()) return;
-        for (Number head : all) into_first[static_cast<std::size_t>(head)]++;
-        for (std::size_t v = 1; v < into_first.size(); v++) into_first[v] += into_first[v - 1];
-        // Each list is filled from its end, so that its beginning is known at last.
-        for (std::size_t at = all.size(); at-- > 0;)
-            into[static_cast<std::size_t>(--into_first[static_cast<std::size_t>(all[at])])] = static_cast<Index>(at);
-        into_first.erase(into_first.begin());
-        into_first.push_back(static_cast<Index>(all.size()));
+        if constexpr (std::is_same_v<Index, std::int32_t>)
+            dnorm_inline_star_32_into(all.data(), all.size(), into_first.data(), first.size() - 1, into.data());
+        else
+            dnorm_inline_star_into(all.data(), all.size(), into_first.data(), first.size() - 1, into.data());
     }
 };
 using Star = StarOf<std::size_t, std::int64_t>;
@@ -348,7 +345,7 @@ public:
     }
 
     // Puts a flow on the canonical arcs in form 1 or 2 back on the arc lines, as dnorm_spread does: returns the units of
-    // each line. Throws Refused with DNORM_NOT_A_FLOW if it is no flow on the lines.
+    // each line. Throws Refused with DNORM_NOT_A_FLOW if it is no flow on the lines, or std::bad_alloc.
     std::vector<std::int64_t> spread(const std::vector<std::int64_t> &flow, int form = 1) const {
         detail::answered(kept.get() != nullptr);
         std::vector<std::int64_t> units(kept.get()->count);
@@ -456,17 +453,16 @@ private:
 
     template <typename Made> Made star_of(int form) const {
         Made made;
-        using Index = typename decltype(made.first)::value_type;
         copy_to(made, form);
-        const std::uint64_t nodes = static_cast<std::uint64_t>(facts().nodes);
+        const std::size_t nodes = static_cast<std::size_t>(facts().nodes), arcs = made.tails.size();
         if (nodes >= made.first.max_size()) throw std::bad_alloc();
-        if (std::is_same_v<Made, Star32> && (nodes > INT32_MAX || made.tails.size() > INT32_MAX))
+        if (std::is_same_v<Made, Star32> && (nodes > INT32_MAX || arcs > INT32_MAX))
             throw std::range_error(dnorm_code_sentence(DNORM_TOO_WIDE));
-        made.first.reserve(static_cast<std::size_t>(nodes) + 1);
-        for (std::size_t v = 0, at = 0; v <= nodes; v++) {
-            while (at < made.tails.size() && static_cast<std::uint64_t>(made.tails[at]) <= v) at++;
-            made.first.push_back(static_cast<Index>(at));
-        }
+        made.first.resize(nodes + 1);
+        if constexpr (std::is_same_v<Made, Star32>)
+            dnorm_inline_star_32_first(made.tails.data(), arcs, made.first.data(), nodes);
+        else
+            dnorm_inline_star_first(made.tails.data(), arcs, made.first.data(), nodes);
         return made;
     }
 };
@@ -574,7 +570,9 @@ inline void write(std::ostream &out, std::uint8_t kind, std::int64_t nodes, cons
 // Writes the units of each arc line, `f TAIL HEAD UNITS`, in the order of the text. Throws std::ios_base::failure if the
 // stream does not take all of it, and std::invalid_argument before the first line if there are not as many units.
 inline void write_flow(std::ostream &out, View<dnorm_row> lines, const std::vector<std::int64_t> &units) {
-    if (units.size() != lines.size()) throw std::invalid_argument("there are not as many units as arc lines");
+    if (units.size() != lines.size())
+        throw std::invalid_argument(std::to_string(units.size()) + " units for " + std::to_string(lines.size()) +
+                                    " arc lines");
     for (std::size_t i = 0; i < lines.size(); i++)
         out << "f " << lines[i].tail << ' ' << lines[i].head << ' ' << units[i] << '\n';
     if (!out.flush()) throw std::ios_base::failure("the flow cannot be written");
