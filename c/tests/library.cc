@@ -163,14 +163,13 @@ static bool spreads(const Instance &it, const std::vector<dnorm_row> &lines, int
     std::vector<std::int64_t> of_arcs, of_lines;
     for (const dnorm_arc &arc : it.arcs(form)) of_arcs.push_back(is_min ? arc.a : 0);
     for (const dnorm_row &line : lines) of_lines.push_back(is_min ? line.a : 0);
+    const std::size_t arcs = of_arcs.size();
     bool are_right = it.spread(of_arcs, form) == of_lines;
-    of_arcs.push_back(0);
-    are_right = are_right && refuses(DNORM_NOT_A_FLOW, [&] { it.spread(of_arcs, form); });
-    of_arcs.pop_back();
-    if (of_arcs.empty()) return are_right;
-    of_arcs.back() = -1;
-    are_right = are_right && refuses(DNORM_NOT_A_FLOW, [&] { it.spread(of_arcs, form); });
-    of_arcs.pop_back();
+    for (std::size_t count : {arcs + 1, arcs / 2}) {
+        of_arcs.resize(count);
+        are_right = are_right && (count == arcs || refuses(DNORM_NOT_A_FLOW, [&] { it.spread(of_arcs, form); }));
+    }
+    of_arcs.assign(arcs + (arcs == 0), -1);
     return are_right && refuses(DNORM_NOT_A_FLOW, [&] { it.spread(of_arcs, form); });
 }
 

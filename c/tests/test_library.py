@@ -64,7 +64,8 @@ NO_FLOWS: dict[str, tuple[dict[str, Any], int]] = {
     "a line of another pair": ({"lines": [*ROWS[:3], (5, 3, 2, 0, 1, 1)]}, NOT_A_FLOW),
     "a line of less capacity": ({"lines": [ROWS[0], (3, 1, 2, 0, 4, 1), *ROWS[2:]]}, NOT_A_FLOW),
     "a line of a greater lower bound": ({"lines": [(2, 1, 2, 3, 4, 2), *ROWS[1:]]}, NOT_A_FLOW),
-    "a lower bound above the capacity": ({"lines": [*ROWS[:2], (4, 2, 3, 4, 3, -1), ROWS[3]]}, NOT_A_FLOW),
+    "a lower bound above the capacity": ({"lines": [ROWS[0], (3, 1, 2, 6, 5, 1), *ROWS[2:]]}, NOT_A_FLOW),
+    "a negative lower bound": ({"lines": [ROWS[0], (3, 1, 2, -1, 5, 1), *ROWS[2:]]}, NOT_A_FLOW),
     "lines in another order": ({"lines": [ROWS[1], ROWS[0], *ROWS[2:]]}, NOT_A_FLOW),
     "a line twice": ({"lines": [*ROWS[:3], ROWS[2]]}, NOT_A_FLOW),
     "too few shares": ({"shares": 1}, WRONG_CALL),
@@ -344,9 +345,9 @@ def test_spread(library: Library, seed: int) -> None:
         sums = dict.fromkeys((it[1:3] for it in rows), 0)
         for it in rows:
             low, cap, _ = CARRIES[kind](*it[3:])
-            # The lines of a pair of `sp` have more room than a number has.
-            some = [low, chance.randint(low, cap), cap] if kind != "sp" else [0, 6, 2**59]
-            sums[it[1:3]] += chance.choice(some)
+            some = chance.choice([low, chance.randint(low, cap), cap])
+            # In `sp`, the sum of a pair would be too large.
+            sums[it[1:3]] = some if kind == "sp" else sums[it[1:3]] + some
         shares = library.facts(handle).pairs
         for form, arcs in [(it, library.arcs(handle, it, 9)) for it in (0, 1, 2, 7) if rows]:
             found = library.spread(handle, form, parted(chance, arcs, sums), rows, shares, len(rows))
