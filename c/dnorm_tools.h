@@ -531,11 +531,11 @@ DNORM_STAR_FUNCTIONS(dnorm_star_32, int32_t, int32_t, dnorm_arc_columns_32, dnor
 /* Writes the problem line of a text of this kind to `out`, with a byte 0 behind it, and returns its length. `nodes` is
    for a graph alone, `count` is the number of arcs, items or points. It is empty for a kind that is none. */
 DNORM_INLINE int dnorm_problem_line(uint8_t kind, int64_t nodes, size_t count, char out[DNORM_LINE]) {
-    const char *const names[] = {"", "min", "max", "sp", "aux sp ss", "aux sp p2p", "aux sp co"};
+    const char *const name = dnorm_kind_name(kind);
     out[0] = 0;
-    if (kind == DNORM_NO_KIND || kind > DNORM_CO) return 0;
-    if (kind >= DNORM_SS) return snprintf(out, DNORM_LINE, "p %s %zu\n", names[kind], count);
-    return snprintf(out, DNORM_LINE, "p %s %" PRId64 " %zu\n", names[kind], nodes, count);
+    if (!*name) return 0;
+    if (kind >= DNORM_SS) return snprintf(out, DNORM_LINE, "p aux sp %s %zu\n", name, count);
+    return snprintf(out, DNORM_LINE, "p %s %" PRId64 " %zu\n", name, nodes, count);
 }
 
 /* Writes the line of an item, or the two lines of the source and the sink, as dnorm_problem_line does. */

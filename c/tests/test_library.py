@@ -357,7 +357,7 @@ def test_spread(library: Library, seed: int) -> None:
 
 @pytest.mark.parametrize("case", NO_FLOWS)
 def test_no_spread(library: Library, case: str) -> None:
-    given = {"graph": CARRIED, "form": 1, "flow": FLOW, "lines": ROWS, "shares": 2, "room": 4}
+    given: dict[str, Any] = {"graph": CARRIED, "form": 1, "flow": FLOW, "lines": ROWS, "shares": 2, "room": 4}
     changed, code = NO_FLOWS[case]
     for it, wanted in [(given, 0), (given | changed, code)]:
         graph = copy_of(library, it["graph"]) if it["graph"] else Handle()

@@ -220,29 +220,28 @@ fn flow_of(graph: &Instance, form: Form, mut left: Sums, random: &mut u64) -> Ve
 
 /// Checks that a random flow is put on the cheapest arc lines, of equal ones on the first, and that others are none.
 fn check_flow(graph: &Instance, form: Form, lines: &[[i64; 6]], random: &mut u64) {
-    // The pair, the lower bound, the units above it, and the cost of each. No sum of `sp` is too large.
+    // The pair, the lower bound, the units above it, and the cost of each.
     let parts = lines.iter().map(|it| match graph.kind() {
         Kind::Min => ((it[1], it[2]), it[3], it[4] - it[3], it[5]),
         Kind::Max => ((it[1], it[2]), 0, it[3], 0),
-        _ => ((it[1], it[2]), 0, 1 << 40, it[3]),
+        _ => ((it[1], it[2]), 0, i64::MAX, it[3]),
     });
     let mut parts: Vec<_> = parts.enumerate().collect();
     let (mut sums, mut left) = (Sums::new(), Sums::new());
     for (_, (pair, low, room, _)) in &parts {
         let some = [0, up_to(*room, random), *room][up_to(2, random) as usize];
-        *sums.entry(*pair).or_insert(0) += low + some;
-        *left.entry(*pair).or_insert(0) += some;
+        // Only in `sp`, the sum may be too large.
+        for (of, units) in [(&mut sums, low + some), (&mut left, some)] {
+            let sum = of.entry(*pair).or_insert(0);
+            *sum = units.saturating_add(*sum);
+        }
     }
     let mut flow = flow_of(graph, form, sums, random);
     let mut units = vec![0; lines.len()];
     parts.sort_by_key(|it| it.1 .3);
     for (at, (pair, low, room, _)) in parts {
         let rest = left.get_mut(&pair).expect("a pair");
-        let some = if graph.kind() == Kind::Sp {
-            *rest
-        } else {
-            room.min(*rest)
-        };
+        let some = room.min(*rest);
         units[at] = low + some;
         *rest -= some;
     }
