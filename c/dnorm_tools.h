@@ -305,8 +305,8 @@ DNORM_INLINE void *dnorm_inline_numbers(uint64_t count, size_t size) {
     return count < SIZE_MAX / size - 1 ? malloc((DNORM_AS(size_t, count) + 1) * size) : NULL;
 }
 
-/* Puts a flow back on arc lines as dnorm_spread of dnorm.h does, and allocates and frees the shares: flow[i] is for
-   the arc i, counted from 0, and units[i] becomes the flow of lines->rows[i].
+/* Puts a flow back on arc lines as dnorm_spread of dnorm.h does, which with these six arguments is this call: flow[i]
+   is for the arc i, counted from 0, and units[i] becomes the flow of lines->rows[i]. It allocates the shares.
    Codes: those of dnorm_spread; DNORM_MEMORY, and nothing changed. */
 DNORM_INLINE dnorm_status dnorm_spread_lines(const dnorm_handle *graph, uint8_t form, const int64_t *flow,
                                              size_t flow_count, const dnorm_arc_lines *lines, int64_t *units) {
@@ -320,8 +320,8 @@ DNORM_INLINE dnorm_status dnorm_spread_lines(const dnorm_handle *graph, uint8_t 
     return status;
 }
 
-/* dnorm_spread has the ten arguments of dnorm.h, or the six of dnorm_spread_lines, which it then calls. Braces in one
-   of the six may have up to three commas, which look like further arguments; more need parentheses around them. */
+/* dnorm_spread has the ten arguments of dnorm.h, or the six of dnorm_spread_lines. Braces in one of the six may have up
+   to three commas, which look like further arguments; more need parentheses around them. */
 #define DNORM_SPREAD(graph, form, flow, flow_count, lines, a, b, c, d, e, call, ...) call
 #undef dnorm_spread
 #define dnorm_spread(...) \

@@ -217,7 +217,8 @@ static int nulls(void) {
     is_right &= dnorm_finish(&graph).code == DNORM_FINE && dnorm_next(&graph, 1, &place, NULL, 0).code == DNORM_FINE;
     is_right &= dnorm_columns(&graph, 1, &place, none, 0).count == 0;
     is_right &= dnorm_items(&graph, &place, NULL, 0).code == DNORM_FINE;
-    is_right &= dnorm_lines_begin(&lines).code == DNORM_FINE && dnorm_lines(&lines, NULL, 0, NULL, 0).code == DNORM_FINE;
+    is_right &= dnorm_lines_begin(&lines).code == DNORM_FINE;
+    is_right &= dnorm_lines(&lines, NULL, 0, NULL, 0).code == DNORM_FINE;
     is_right &= dnorm_canon(&graph, 1, &graph).code == DNORM_WRONG_CALL && dnorm_facts(&graph).kind == DNORM_MIN;
     is_right &= dnorm_canon(&text, 1, &text).code == DNORM_WRONG_CALL && !text.full;
     is_right &= dnorm_canon(&graph, 1, &text).code == DNORM_FINE && dnorm_text(&text, 0, NULL, 0).code == DNORM_FINE;

@@ -5,8 +5,8 @@ use crate::{Form, Instance, Kind};
 use std::num::TryFromIntError;
 use std::ops::Range;
 
-/// Canonical arcs by columns, as [`CanonArc`](crate::CanonArc) has their numbers. Columns that the kind lacks are empty:
-/// `b` and `c` of `sp` and `max`, and all columns of a companion.
+/// Canonical arcs by columns, as [`CanonArc`](crate::CanonArc) has their numbers. Columns that the kind lacks are
+/// empty: `b` and `c` of `sp` and `max`, and all columns of a companion.
 #[derive(Clone, Debug, Default, PartialEq, Eq)]
 pub struct Columns<Number> {
     /// The tails.
