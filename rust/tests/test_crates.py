@@ -5,12 +5,14 @@ import glob
 import os
 import re
 import shutil
+from random import Random
 
 import pytest
 from builds import GIVEN, by_rustc, refusal_lines, sentences_of, version_of, with_little_memory
 from known import CANONICAL, FLOWS
 from needs import need, need_here
 from shared import ROOT, run, said, text_of, write
+from texts import lines_of, made, spelled
 
 pytestmark = pytest.mark.slow
 CRATES = f"{ROOT}/rust"
@@ -112,6 +114,14 @@ def test_rust(uses: str, folder: str, text: bytes, forms: list[bytes]) -> None:
     assert run([uses], text) == said(b"".join(forms))
     write("text", text)
     assert run([uses, "text"]) == said(forms[0]), "by a file"
+
+
+def test_flows_in_rust(uses: str) -> None:
+    """On random texts, library.rs finds what it checks of arcs, stars, and flows on arc lines."""
+    chance = Random(1)
+    for i in range(300):
+        text = spelled(chance, lines_of(chance, made(chance, ["min", "max", "sp"][i % 3], i % 2 == 0)))
+        assert run([uses], text).status in (0, 2), text
 
 
 def test_refusals_in_rust(uses: str, tested: str) -> None:
