@@ -132,6 +132,12 @@ function copy(count, [from, at, step], [to, toAt, toStep]) {
   }
 }
 
+// Returns numbers below 2^32 without their upper halves.
+function lowHalves(numbers) {
+  const halves = new Uint32Array(numbers.buffer, numbers.byteOffset, 2 * numbers.length);
+  return new Uint32Array(numbers.length).map((_, i) => halves[2 * i]);
+}
+
 // Returns columns with these names of rows, which come in blocks.
 function columnsOf(blocks, width, count, names) {
   const made = names.map(() => new BigInt64Array(count));
@@ -380,7 +386,7 @@ export class Instance {
     const columns = this.columns(form);
     const { nodes } = this.facts();
     if (nodes >= 2n ** 32n) throw new RangeError(`${nodes} nodes are too many for a star`);
-    const [tails, heads] = [columns.tail, columns.head].map((it) => Uint32Array.from(it, Number));
+    const [tails, heads] = [columns.tail, columns.head].map(lowHalves);
     const reverse = () => {
       const intoFirst = firstOf(Number(nodes), heads);
       const next = intoFirst.slice();
