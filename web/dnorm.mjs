@@ -124,7 +124,7 @@ function formOf(form) {
 }
 
 // Copies so many numbers, by halves: a BigInt for each takes longer. A place is an array, an index, and a step.
-function copy(count, [from, at, step], [to, toAt, toStep]) {
+function copyNumbers(count, [from, at, step], [to, toAt, toStep]) {
   const [source, target] = [from, to].map((it) => new Int32Array(it.buffer, it.byteOffset, 2 * it.length));
   for (let i = 0, one = 2 * at, other = 2 * toAt; i < count; i += 1, one += 2 * step, other += 2 * toStep) {
     target[other] = source[one];
@@ -143,7 +143,7 @@ function columnsOf(blocks, width, count, names) {
   const made = names.map(() => new BigInt64Array(count));
   let at = 0;
   for (const rows of blocks) {
-    made.forEach((it, k) => copy(rows.length / width, [rows, k, width], [it, at, 1]));
+    made.forEach((it, k) => copyNumbers(rows.length / width, [rows, k, width], [it, at, 1]));
     at += rows.length / width;
   }
   return Object.fromEntries(names.map((name, k) => [name, made[k]]));
@@ -233,8 +233,9 @@ export class Library {
    *  `lines`, the instance has the arc lines of the text. */
   async read(source, { progress, lines = false } = {}) {
     const instance = new Instance(this);
-    const reader = lines ? new LinesReader(this) : null;
+    let reader = null;
     try {
+      if (lines) reader = new LinesReader(this);
       this.calls.dnorm_begin(this.at, instance.handle);
       this.fine();
       for await (const piece of pieces(typeof source === 'string' ? await this.open(source) : source)) {
@@ -292,9 +293,10 @@ export class Library {
 // Reads the arc lines of a text whose pieces an instance was fed before.
 class LinesReader {
   constructor(library) {
-    Object.assign(this, { library, own: new Instance(library), room: library.block(8 * ROW * SOME), blocks: [] });
+    Object.assign(this, { library, own: new Instance(library), blocks: [] });
     library.calls.dnorm_lines_begin(library.at, this.own.handle);
     library.fine();
+    this.room = library.block(8 * ROW * SOME);
   }
 
   // Takes the bytes of the last piece, which still lie there.
@@ -420,7 +422,7 @@ export class Instance {
     try {
       numbers(0).set(given);
       const rows = numbers(1).fill(0n);
-      columns.forEach((it, k) => copy(count, [it, 0, 1], [rows, k, ROW]));
+      columns.forEach((it, k) => copyNumbers(count, [it, 0, 1], [rows, k, ROW]));
       const sizes = [given.length, count, pairs, count];
       const words = sizes.flatMap((it, k) => [room + BigInt(from[k]), BigInt(it)]);
       library.calls.dnorm_spread(library.at, this.handle, formOf(form), ...words);

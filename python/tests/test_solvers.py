@@ -73,6 +73,8 @@ def by_networkx(found: dnorm.Instance) -> int:
         flow = found.flow_of(by_edges).tolist()
         values = [(tail == found.source) - (head == found.source) for tail, head, _ in found.arcs()]
     else:
+        ends = [*zip(found.tails.tolist(), found.heads.tolist())]
+        assert sorted((key, u, v) for u, v, key in graph.edges) == [(at, *it) for at, it in enumerate(ends)], "keys"
         optimum, by_edges = networkx.network_simplex(graph)
         optimum += graph.graph["cost"]
         flow, values = found.flow_of(by_edges).tolist(), found.costs.tolist()
