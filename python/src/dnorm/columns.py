@@ -46,7 +46,7 @@ def columns_of(rows: "array[int]", width: int) -> list[Any]:
 
 
 def zeros(count: int) -> "array[int]":
-    return array("q", bytes(8 * count))
+    return array("q", [0]) * count
 
 
 def read_only(numbers: Any) -> Any:
