@@ -1,7 +1,6 @@
 """Tests that `read` returns the arc lines of a text beside its instance, and that a flow on the arcs is put back on the
 lines; where the arcs of each node are; and the calls of suite/calls.json."""
 
-import ctypes
 import json
 import os
 import pickle
@@ -27,10 +26,9 @@ ROUNDS = 60
 CASES: list[dict[str, Any]] = json.loads(text_of(f"{ROOT}/suite/calls.json"))["cases"]
 
 
-@pytest.fixture(autouse=True)
-def spreading(reader: str) -> None:
-    """The library spreads flows, as those after 3.0.0 do."""
-    if not hasattr(ctypes.CDLL(os.environ["DNORM_LIBRARY"]), "dnorm_spread"):
+def need_spread() -> None:
+    """Passes over the test if the library cannot spread a flow, as that of 3.0.0."""
+    if not hasattr(dnorm.library.library(), "dnorm_spread"):
         pass_over("dnorm_spread")
 
 
@@ -101,6 +99,8 @@ def answer_of(case: dict[str, Any]) -> str:
 
 @pytest.mark.parametrize("case", CASES, ids=[it["name"] for it in CASES])
 def test_calls(reader: str, case: dict[str, Any]) -> None:
+    if case["call"] == "spread":
+        need_spread()
     if case.get("form", "1") not in ("1", "2"):
         with pytest.raises(ValueError, match="form is 1 or 2"):
             answer_of(case)
@@ -126,7 +126,7 @@ def check_lines(text: bytes, form: dnorm.answers.Form) -> None:
     assert found == dnorm.read(text, form) and lines.kind == found.kind
     columns = (lines.numbers, lines.tails, lines.heads, lines.a, lines.b, lines.c)
     assert [*map(list, zip(*(it.tolist() for it in columns)))] == given_lines(text)
-    if isinstance(found, (dnorm.Min, dnorm.Max)):
+    if isinstance(found, (dnorm.Min, dnorm.Max)) and hasattr(dnorm.library.library(), "dnorm_spread"):
         is_min = isinstance(found, dnorm.Min)
         least = found.lows.tolist() if isinstance(found, dnorm.Min) else [0] * len(found)
         most = found.caps if isinstance(found, dnorm.Min) else found.capacities
@@ -157,6 +157,7 @@ def test_random(reader: str) -> None:
 
 
 def test_no_flow(reader: str) -> None:
+    need_spread()
     found, lines = dnorm.read(FLOWS, lines=True)
     assert isinstance(found, dnorm.Min)
     for flow in [[*found.caps][1:], [-1, *found.caps][: len(found)], [it + 1 for it in found.caps]]:
@@ -170,6 +171,7 @@ def test_no_flow(reader: str) -> None:
 
 def test_other_flows(reader: str) -> None:
     """Flows of other sorts, lines and graphs that are copies, and a graph in another form."""
+    need_spread()
     both: Any = dnorm.read(FLOWS, lines=True)
     found, lines = both
     other: Any = dnorm.read(FLOWS, 2)
