@@ -79,7 +79,7 @@ def of_rust(root: str) -> Iterator[str]:
 def of_typescript(root: str) -> Iterator[str]:
     with open(f"{root}/web/dnorm.d.ts", encoding="utf-8") as file:
         text = re.sub(r"/\*.*?\*/", "", file.read(), flags=re.S)
-    yield from (in_one_line(it) for it in re.findall(r"^ *([\w ]+[(:?=].*?);$", text, re.M | re.S))
+    yield from (in_one_line(it) for it in re.findall(r"^ *(?! |private )([\w ]+[(:?=].*?);$", text, re.M | re.S))
 
 
 def of_commands(root: str) -> Iterator[str]:
