@@ -324,15 +324,16 @@ dnorm_difference dnorm_compare(const dnorm *left, const dnorm *right);
 dnorm_fit dnorm_fits(const dnorm *graph, const dnorm *companion);
 
 /* Puts a flow on the canonical arcs of a graph, in form 1 or 2, back on the arc lines of its text. `flow` has the
-   units of each arc, in the order of dnorm_next, and `units` gets those of each line. Each line has units between its
-   lower bound and its capacity, and the units of a pair are those of its arcs: the cheapest lines have them (the
-   shortest ones in `sp`), and of equal ones the first in the text, so that no flow on the lines with these units costs
-   less. `shares` is room to work in: one share for each pair that dnorm_facts counts. What is in it does not matter.
-   Codes: DNORM_FINE. DNORM_NOT_A_FLOW if the lines are not as many as dnorm_facts tells or not in the order of a text,
-   if `flow` has not as many numbers as there are arcs or a negative one, or if the units of a pair are not between
-   the sums of the lower bounds and of the capacities of its lines; `units` and `shares` may have changed.
-   DNORM_WRONG_CALL if there is no graph, there are fewer shares than pairs, or not as many units as lines; nothing
-   changed. */
+   units of each arc, in the order of dnorm_next, and `units` gets those of each line, from its lower bound to its
+   capacity (in `sp` from 0 to 2^63-1). The lines of a pair have the units of its arcs. Of two lines of a pair, the one
+   that costs less (in `sp` the shorter one; of equal ones the first in the text) is full, or the other one has its
+   lower bound. It is well known that no units of the lines that are this flow cost less then; no law says so.
+   `shares` is room to work in: one share for each pair that dnorm_facts counts. What is in it does not matter.
+   Codes: DNORM_FINE; the lines are then as many as dnorm_facts tells, in the order of a text. DNORM_NOT_A_FLOW if no
+   units of the lines are this flow, or the lines are not those of the graph; if `flow` has not as many numbers as
+   there are arcs, or a negative one; or if a pair has more than 2^63-1 units. `units` and `shares` may have changed.
+   DNORM_WRONG_CALL if there is no graph, there are fewer shares than pairs, or not as many units as lines; `units` is
+   as it was, and so is, as is tested and not proved, `shares`. */
 dnorm_status dnorm_spread(const dnorm *graph, uint8_t form, const int64_t *flow, size_t flow_count,
                           const dnorm_row *lines, size_t line_count, dnorm_share *shares, size_t share_count,
                           int64_t *units, size_t unit_count);

@@ -88,10 +88,15 @@ class Library:
         self, graph: Handle, form: int, flow: list[int], lines: Rows, shares: int, room: int
     ) -> tuple[int, list[int]]:
         """Puts a flow on arc lines, with so many shares, and room for so many units, which are 7 before. Returns the
-        code and the units."""
+        code and the units. A wrong call changes nothing."""
         numbers, rows, units = (I64 * len(flow))(*flow), (Row * len(lines))(*lines), (I64 * room)(*[7] * room)
-        rooms = [numbers, len(flow), rows, len(lines), (Share * shares)(), shares, units, room]
-        return self.calls["spread"](graph, form, *rooms).code, [*units]
+        room_to_work = (Share * shares)(*[(7, 7, 7)] * shares)
+        given = [bytes(it) for it in (graph, numbers, rows, room_to_work, units)]
+        rooms = [numbers, len(flow), rows, len(lines), room_to_work, shares, units, room]
+        code = self.calls["spread"](graph, form, *rooms).code
+        if code == WRONG_CALL:
+            assert given == [bytes(it) for it in (graph, numbers, rows, room_to_work, units)]
+        return code, [*units]
 
     def rows(self, name: str, row: Any, room: int, *arguments: Any) -> Rows:
         """Returns all arcs or items, copied in ranges of `room`, each from the place where the last one ended. A range

@@ -362,7 +362,7 @@ def test_no_spread(library: Library, case: str) -> None:
     for it, wanted in [(given, 0), (given | changed, code)]:
         graph = copy_of(library, it["graph"]) if it["graph"] else Handle()
         found, units = library.spread(**{**it, "graph": graph})
-        assert found == wanted and (code != WRONG_CALL or units in (UNITS, [7] * len(units)))
+        assert found == wanted and (found != 0 or units == UNITS)
         library.free(graph)
 
 

@@ -54,7 +54,7 @@ USES, MAKES = f"{CRATES}/tests/library.rs", f"{CRATES}/tests/calls.rs"
 PROGRAMS: dict[str, list[str]] = {it: [] for it in sorted(glob.glob(f"{ROOT}/bench/**/*.rs", recursive=True))}
 PROGRAMS |= {it: ["dnorm"] for it in [USES, MAKES, *sorted(glob.glob(f"{ROOT}/c/examples/*.rs"))]}
 PROGRAMS[f"{CRATES}/dnorm-sys/build.rs"] = []
-# Calls of suite/calls.json that Rust has: an instance owns one, a form is 1 or 2, and flows are spread on its own lines.
+# Calls of suite/calls.json that Rust has: each instance is one, a form is 1 or 2, and a flow is for the own lines.
 OF_RUST = [
     name
     for name, it in CALLS.items()
