@@ -10,10 +10,7 @@ from unittest import mock
 
 import pytest
 from needs import leave_out, need
-from shared import ENDING, ROOT, Quick, exit_by, program_at, run, said
-
-# Where the library for C is.
-PREFIX = os.environ.get("DNORM_TESTED_PREFIX") or f"{ROOT}/build/prefix"
+from shared import ENDING, PREFIX, ROOT, Quick, exit_by, program_at, run, said
 
 
 def pytest_addoption(parser: pytest.Parser) -> None:

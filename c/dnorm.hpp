@@ -21,6 +21,7 @@
 #include <cstdio>
 #include <iostream>
 #include <iterator>
+#include <memory>
 #include <new>
 #include <optional>
 #include <stdexcept>
@@ -91,29 +92,15 @@ private:
     dnorm_handle raw = DNORM_NONE;
 };
 
-// Owns arc lines, if they are kept.
-class Lines {
-public:
-    explicit Lines(bool keeps = false) : is_kept(keeps) {}
-    Lines(Lines &&other) noexcept
-        : raw(std::exchange(other.raw, DNORM_NO_LINES)), is_kept(std::exchange(other.is_kept, false)) {}
-    Lines &operator=(Lines &&other) noexcept {
-        Lines taken(std::move(other));
-        std::swap(raw, taken.raw);
-        std::swap(is_kept, taken.is_kept);
-        return *this;
+// Arc lines, or null if they are not kept.
+struct LinesFreed {
+    void operator()(dnorm_arc_lines *it) const noexcept {
+        dnorm_arc_lines_free(it);
+        delete it;
     }
-    Lines(const Lines &) = delete;
-    Lines &operator=(const Lines &) = delete;
-    ~Lines() { dnorm_arc_lines_free(&raw); }
-    // Null if they are not kept.
-    dnorm_arc_lines *get() noexcept { return is_kept ? &raw : nullptr; }
-    const dnorm_arc_lines *get() const noexcept { return is_kept ? &raw : nullptr; }
-
-private:
-    dnorm_arc_lines raw = DNORM_NO_LINES;
-    bool is_kept;
 };
+using Lines = std::unique_ptr<dnorm_arc_lines, LinesFreed>;
+inline Lines lines(bool are_kept = true) { return Lines(are_kept ? new dnorm_arc_lines() : nullptr); }
 
 inline void fine(dnorm_status status, const char *file = "") {
     if (status.code == DNORM_MEMORY) throw std::bad_alloc();
@@ -135,18 +122,6 @@ inline std::uint8_t form_of(int form) {
     if (form != 1 && form != 2) throw std::invalid_argument("a form is 1 or 2");
     return static_cast<std::uint8_t>(form);
 }
-
-// The functions that copy columns of these numbers.
-inline dnorm_count copy(const dnorm_handle *graph, int form, dnorm_arc_columns out, std::size_t room) {
-    dnorm_place place = DNORM_FIRST;
-    return dnorm_columns(graph, form_of(form), &place, out, room);
-}
-inline dnorm_count copy(const dnorm_handle *graph, int form, dnorm_arc_columns_32 out, std::size_t room) {
-    dnorm_place place = DNORM_FIRST;
-    return dnorm_columns_32(graph, form_of(form), &place, out, room);
-}
-template <typename Number>
-using Out = std::conditional_t<std::is_same_v<Number, std::int32_t>, dnorm_arc_columns_32, dnorm_arc_columns>;
 
 } // namespace detail
 
@@ -171,16 +146,13 @@ template <typename Index, typename Number> struct StarOf : ColumnsOf<Number> {
     // Finds the arcs into each node. A star that was moved from has none.
     void reverse() {
         const std::vector<Number> &all = this->heads;
-        into_first.assign(first.size(), 0);
+        into_first.resize(first.size());
         into.resize(all.size());
         if (first.empty()) return;
-        for (Number head : all) into_first[static_cast<std::size_t>(head)]++;
-        for (std::size_t v = 1; v < into_first.size(); v++) into_first[v] += into_first[v - 1];
-        // Each list is filled from its end, so that its beginning is known at last.
-        for (std::size_t at = all.size(); at-- > 0;)
-            into[static_cast<std::size_t>(--into_first[static_cast<std::size_t>(all[at])])] = static_cast<Index>(at);
-        into_first.erase(into_first.begin());
-        into_first.push_back(static_cast<Index>(all.size()));
+        if constexpr (std::is_same_v<Index, std::int32_t>)
+            dnorm_inline_star_32_into(all.data(), all.size(), into_first.data(), first.size() - 1, into.data());
+        else
+            dnorm_inline_star_into(all.data(), all.size(), into_first.data(), first.size() - 1, into.data());
     }
 };
 using Star = StarOf<std::size_t, std::int64_t>;
@@ -204,8 +176,8 @@ private:
     std::size_t length;
 };
 
-// The canonical arcs of an instance in form 1, one after another: for (const dnorm_arc &arc : graph). Some are copied at
-// a time. The instance must outlive it.
+// The canonical arcs of an instance in form 1, one after another: for (const dnorm_arc &arc : graph). Some are copied
+// at a time. The instance must outlive it.
 class ArcIterator {
 public:
     using iterator_category = std::input_iterator_tag;
@@ -264,9 +236,9 @@ public:
     // Reads a file to its end: Instance graph{Path(name)}. Throws Refused, std::bad_alloc, or std::system_error if it
     // cannot be read.
     explicit Instance(const Path &file) { done(read_file(file), file.name.c_str()); }
-    Instance(const Path &file, WithLines) : kept(true) { done(read_file(file), file.name.c_str()); }
+    Instance(const Path &file, WithLines) : kept(detail::lines()) { done(read_file(file), file.name.c_str()); }
     explicit Instance(const Descriptor &file) { done(read_file(file), "a file descriptor"); }
-    Instance(const Descriptor &file, WithLines) : kept(true) { done(read_file(file), "a file descriptor"); }
+    Instance(const Descriptor &file, WithLines) : kept(detail::lines()) { done(read_file(file), "a file descriptor"); }
 
     // A text is a std::string_view, and the name of a file is a Path: a string could be either.
     template <typename Other, typename = std::enable_if_t<std::is_convertible_v<const Other &, std::string_view>>>
@@ -347,8 +319,8 @@ public:
         return {kept.get()->rows, kept.get()->count};
     }
 
-    // Puts a flow on the canonical arcs in form 1 or 2 back on the arc lines, as dnorm_spread does: returns the units of
-    // each line. Throws Refused with DNORM_NOT_A_FLOW if it is no flow on the lines.
+    // Puts a flow on the canonical arcs in form 1 or 2 back on the arc lines, as dnorm_spread does: returns the units
+    // of each line. Throws Refused with DNORM_NOT_A_FLOW if it is no flow on the lines, or std::bad_alloc.
     std::vector<std::int64_t> spread(const std::vector<std::int64_t> &flow, int form = 1) const {
         detail::answered(kept.get() != nullptr);
         std::vector<std::int64_t> units(kept.get()->count);
@@ -412,7 +384,7 @@ private:
 
     template <typename File>
     static std::optional<Instance> from(const File &file, bool keeps_lines, dnorm_status &status) {
-        Instance made{detail::Handle(), detail::Lines(keeps_lines)};
+        Instance made{detail::Handle(), detail::lines(keeps_lines)};
         status = made.read_file(file);
         if (status.code != DNORM_FINE) return std::nullopt;
         return made;
@@ -441,9 +413,15 @@ private:
         made.a.resize(count);
         made.b.resize(more);
         made.c.resize(more);
-        const detail::Out<Number> out = {made.tails.data(), made.heads.data(), made.a.data(),
-                                         more ? made.b.data() : nullptr, more ? made.c.data() : nullptr};
-        const dnorm_count found = detail::copy(handle.get(), form, out, count);
+        Number *const b = more ? made.b.data() : nullptr, *const c = more ? made.c.data() : nullptr;
+        dnorm_place place = DNORM_FIRST;
+        dnorm_count found;
+        if constexpr (std::is_same_v<Number, std::int32_t>)
+            found = dnorm_columns_32(handle.get(), detail::form_of(form), &place,
+                                     {made.tails.data(), made.heads.data(), made.a.data(), b, c}, count);
+        else
+            found = dnorm_columns(handle.get(), detail::form_of(form), &place,
+                                  {made.tails.data(), made.heads.data(), made.a.data(), b, c}, count);
         if (found.code == DNORM_TOO_WIDE) throw std::range_error(dnorm_code_sentence(found.code));
         detail::counted(found);
     }
@@ -456,17 +434,16 @@ private:
 
     template <typename Made> Made star_of(int form) const {
         Made made;
-        using Index = typename decltype(made.first)::value_type;
         copy_to(made, form);
-        const std::uint64_t nodes = static_cast<std::uint64_t>(facts().nodes);
+        const std::size_t nodes = static_cast<std::size_t>(facts().nodes), arcs = made.tails.size();
         if (nodes >= made.first.max_size()) throw std::bad_alloc();
-        if (std::is_same_v<Made, Star32> && (nodes > INT32_MAX || made.tails.size() > INT32_MAX))
+        if (std::is_same_v<Made, Star32> && (nodes > INT32_MAX || arcs > INT32_MAX))
             throw std::range_error(dnorm_code_sentence(DNORM_TOO_WIDE));
-        made.first.reserve(static_cast<std::size_t>(nodes) + 1);
-        for (std::size_t v = 0, at = 0; v <= nodes; v++) {
-            while (at < made.tails.size() && static_cast<std::uint64_t>(made.tails[at]) <= v) at++;
-            made.first.push_back(static_cast<Index>(at));
-        }
+        made.first.resize(nodes + 1);
+        if constexpr (std::is_same_v<Made, Star32>)
+            dnorm_inline_star_32_first(made.tails.data(), arcs, made.first.data(), nodes);
+        else
+            dnorm_inline_star_first(made.tails.data(), arcs, made.first.data(), nodes);
         return made;
     }
 };
@@ -513,7 +490,7 @@ private:
     detail::Handle handle, reader;
     detail::Lines kept;
 
-    explicit Reader(bool keeps_lines) : kept(keeps_lines) {
+    explicit Reader(bool keeps_lines) : kept(detail::lines(keeps_lines)) {
         detail::fine(dnorm_begin(handle.get()));
         if (keeps_lines) detail::fine(dnorm_lines_begin(reader.get()));
     }
@@ -571,10 +548,12 @@ inline void write(std::ostream &out, std::uint8_t kind, std::int64_t nodes, cons
     if (!out.flush()) throw std::ios_base::failure("the text cannot be written");
 }
 
-// Writes the units of each arc line, `f TAIL HEAD UNITS`, in the order of the text. Throws std::ios_base::failure if the
-// stream does not take all of it, and std::invalid_argument before the first line if there are not as many units.
+// Writes the units of each arc line, `f TAIL HEAD UNITS`, in the order of the text. Throws std::ios_base::failure if
+// the stream does not take all of it, and std::invalid_argument before the first line if there are not as many units.
 inline void write_flow(std::ostream &out, View<dnorm_row> lines, const std::vector<std::int64_t> &units) {
-    if (units.size() != lines.size()) throw std::invalid_argument("there are not as many units as arc lines");
+    if (units.size() != lines.size())
+        throw std::invalid_argument(std::to_string(units.size()) + " units for " + std::to_string(lines.size()) +
+                                    " arc lines");
     for (std::size_t i = 0; i < lines.size(); i++)
         out << "f " << lines[i].tail << ' ' << lines[i].head << ' ' << units[i] << '\n';
     if (!out.flush()) throw std::ios_base::failure("the flow cannot be written");

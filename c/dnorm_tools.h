@@ -5,7 +5,7 @@
        dnorm_read_fd, dnorm_read_file, dnorm_read_path             read a text to its end
        dnorm_read_lines_fd, dnorm_read_lines_file,
        dnorm_read_lines_path, dnorm_arc_lines_free                 read it with its arc lines
-       dnorm_spread, dnorm_write_flow                              put a flow on the arc lines, and write it
+       dnorm_spread_lines, dnorm_write_flow                        put a flow on the arc lines, and write it
        dnorm_columns_32                                            copies arcs to columns of 32 bits
        dnorm_first_arcs                                            finds the arcs of each node
        dnorm_star_make, dnorm_star_reverse, dnorm_star_free        make a forward star, and the arcs into each node
@@ -38,10 +38,7 @@ enum {
     /* DNORM_READS reads of a file returned bytes, and no end came. */
     DNORM_ENDLESS = 32,
     /* A number does not fit 32 bits. */
-    DNORM_TOO_WIDE = 41,
-    /* The units of a pair are not between the sums of its lower bounds and of its capacities, or arcs and arc lines are
-       not of one text. */
-    DNORM_NOT_A_FLOW = 42
+    DNORM_TOO_WIDE = 41
 };
 
 /* Converts a number, or what malloc returns, as C and C++ do it. */
@@ -303,105 +300,36 @@ DNORM_INLINE dnorm_status dnorm_read_path(dnorm_handle *graph, const char *path)
     return dnorm_read_lines_path(graph, NULL, path);
 }
 
-/* An arc line that dnorm_spread sorts: its nodes, the cost of a unit, its place among the lines, and its free units. */
-typedef struct dnorm_inline_line {
-    int64_t tail, head, cost, room;
-    size_t at;
-} dnorm_inline_line;
-
-/* Compares two of them: by tail, by head, by cost, and then by place. */
-DNORM_INLINE int dnorm_inline_by_cost(const void *left, const void *right) {
-    const dnorm_inline_line *const l = DNORM_AS(const dnorm_inline_line *, left);
-    const dnorm_inline_line *const r = DNORM_AS(const dnorm_inline_line *, right);
-    if (l->tail != r->tail) return l->tail < r->tail ? -1 : 1;
-    if (l->head != r->head) return l->head < r->head ? -1 : 1;
-    if (l->cost != r->cost) return l->cost < r->cost ? -1 : 1;
-    return l->at < r->at ? -1 : l->at > r->at;
+/* Returns memory of malloc for so many numbers or shares of this size, which free frees, or null. */
+DNORM_INLINE void *dnorm_inline_numbers(uint64_t count, size_t size) {
+    return count < SIZE_MAX / size - 1 ? malloc((DNORM_AS(size_t, count) + 1) * size) : NULL;
 }
 
-/* Gives the lines of a pair, which begin at `sorted`, so many units beyond their lower bounds, the cheapest first.
-   Returns the line after them, or null if not all units have room. */
-DNORM_INLINE const dnorm_inline_line *dnorm_inline_give(const dnorm_inline_line *sorted, const dnorm_inline_line *end,
-                                                        int64_t units, int64_t *out) {
-    const dnorm_inline_line *it = sorted;
-    for (; it < end && it->tail == sorted->tail && it->head == sorted->head; it++) {
-        const int64_t some = units < it->room ? units : it->room;
-        out[it->at] += some;
-        units -= some;
-    }
-    return units == 0 ? it : NULL;
-}
-
-/* Puts the flows of canonical arcs on sorted arc lines. Returns whether they are a flow on these. */
-DNORM_INLINE bool dnorm_inline_spread(const dnorm_handle *graph, uint8_t form, const int64_t *flow, size_t flow_count,
-                                      const dnorm_inline_line *sorted, const dnorm_inline_line *end, int64_t *units) {
-    dnorm_arc arcs[DNORM_SOME];
-    dnorm_place place = DNORM_FIRST;
-    size_t at = 0, count;
-    int64_t left = 0;
-    const dnorm_inline_line *it = sorted;
-    bool is_open = false;
-    dnorm_arc pair = {0, 0, 0, 0, 0};
-    do {
-        count = dnorm_next(graph, form, &place, arcs, DNORM_SOME).count;
-        for (size_t i = 0; i < count; i++, at++) {
-            const bool is_same = is_open && arcs[i].tail == pair.tail && arcs[i].head == pair.head;
-            if (at >= flow_count || flow[at] < 0) return false;
-            if (!is_same) {
-                if (is_open && (left < 0 || !(it = dnorm_inline_give(it, end, left, units)))) return false;
-                pair = arcs[i];
-                is_open = true;
-                /* The lines of pairs without canonical arcs have no units but their lower bounds. */
-                while (it < end && (it->tail < pair.tail || (it->tail == pair.tail && it->head < pair.head))) it++;
-                if (it == end || it->tail != pair.tail || it->head != pair.head) return false;
-                left = 0;
-                for (const dnorm_inline_line *of = it; of < end && of->tail == pair.tail && of->head == pair.head; of++)
-                    left -= units[of->at];
-            }
-            if (left > 0 && flow[at] > INT64_MAX - left) return false;
-            left += flow[at];
-        }
-    } while (count == DNORM_SOME);
-    if (is_open && (left < 0 || !dnorm_inline_give(it, end, left, units))) return false;
-    return at == flow_count;
-}
-
-/* Puts a flow on the canonical arcs of a graph, in form 1 or 2, back on the arc lines of its text: flow[i] is for the
-   arc i, counted from 0, in the order of dnorm_next, and units[i] becomes the flow of lines->rows[i]. The lines of a
-   pair share the flow of its arcs: in `min` each has its lower bound, and the rest goes to the cheapest, so that the
-   cost stays the same; in `max` the first ones are filled; in `sp` the first of the shortest has all.
-   Codes: DNORM_FINE; DNORM_NOT_A_FLOW, DNORM_MEMORY and DNORM_WRONG_CALL, and `units` may have changed. */
-DNORM_INLINE dnorm_status dnorm_spread(const dnorm_handle *graph, uint8_t form, const int64_t *flow, size_t flow_count,
-                                       const dnorm_arc_lines *lines, int64_t *units) {
-    const uint8_t kind = dnorm_facts(graph).kind;
-    const bool is_min = kind == DNORM_MIN, is_sp = kind == DNORM_SP;
-    dnorm_status status = {DNORM_FINE, DNORM_NO_PLACE, 0};
-    dnorm_inline_line *sorted;
-    if (kind == DNORM_NO_KIND || kind >= DNORM_SS) {
-        status.code = DNORM_WRONG_CALL;
-        return status;
-    }
-    sorted = DNORM_AS(dnorm_inline_line *, calloc(lines->count + 1, sizeof *sorted));
-    if (!sorted) {
-        status.code = DNORM_MEMORY;
-        return status;
-    }
-    for (size_t i = 0; i < lines->count; i++) {
-        const dnorm_row row = lines->rows[i];
-        const dnorm_inline_line it = {row.tail, row.head, is_min ? row.c : is_sp ? row.a : 0,
-                                      is_min ? row.b - row.a : is_sp ? INT64_MAX : row.a, i};
-        units[i] = is_min ? row.a : 0;
-        sorted[i] = it;
-    }
-    qsort(sorted, lines->count, sizeof *sorted, dnorm_inline_by_cost);
-    if (!dnorm_inline_spread(graph, form, flow, flow_count, sorted, sorted + lines->count, units))
-        status.code = DNORM_NOT_A_FLOW;
-    free(sorted);
+/* Puts a flow back on arc lines as dnorm_spread of dnorm.h does, which with these six arguments is this call: flow[i]
+   is for the arc i, counted from 0, and units[i] becomes the flow of lines->rows[i]. It allocates the shares.
+   Codes: those of dnorm_spread; DNORM_MEMORY, and nothing changed. */
+DNORM_INLINE dnorm_status dnorm_spread_lines(const dnorm_handle *graph, uint8_t form, const int64_t *flow,
+                                             size_t flow_count, const dnorm_arc_lines *lines, int64_t *units) {
+    const uint64_t pairs = dnorm_facts(graph).pairs;
+    void *const room = dnorm_inline_numbers(pairs, sizeof(dnorm_share));
+    dnorm_status status = {DNORM_MEMORY, DNORM_NO_PLACE, 0};
+    if (room)
+        status = dnorm_spread(graph, form, flow, flow_count, lines->rows, lines->count, DNORM_AS(dnorm_share *, room),
+                              DNORM_AS(size_t, pairs), units, lines->count);
+    free(room);
     return status;
 }
 
-/* Writes the units of each arc line to a stream, `f TAIL HEAD UNITS`, in the order of the text. Returns whether the
-   stream took all of it; if not, errno has the cause. */
+/* dnorm_spread has the ten arguments of dnorm.h, or the six of dnorm_spread_lines. Braces in one of the six may have up
+   to three commas, which look like further arguments; more need parentheses around them. */
+#define DNORM_SPREAD(graph, form, flow, flow_count, lines, a, b, c, d, e, call, ...) call
+#undef dnorm_spread
+#define dnorm_spread(...) \
+    DNORM_SPREAD(__VA_ARGS__, dnorm_inline_spread, dnorm_spread_lines, dnorm_spread_lines, dnorm_spread_lines, \
+                 dnorm_spread_lines, 0)(__VA_ARGS__)
+
+/* Writes the units of each arc line to a stream, `f TAIL HEAD UNITS`, in the order of the text: there are as many units
+   as lines. Returns whether the stream took all of it; if not, errno has the cause. */
 DNORM_INLINE bool dnorm_write_flow(FILE *out, const dnorm_arc_lines *lines, const int64_t *units) {
     for (size_t i = 0; i < lines->count; i++)
         fprintf(out, "f %" PRId64 " %" PRId64 " %" PRId64 "\n", lines->rows[i].tail, lines->rows[i].head, units[i]);
@@ -518,13 +446,22 @@ DNORM_INLINE dnorm_status dnorm_star_32_reverse(dnorm_star_32 *star);
 /* Frees what a forward star of 32 bits owns. It then owns nothing. */
 DNORM_INLINE void dnorm_star_32_free(dnorm_star_32 *star);
 
-/* Returns memory of malloc for so many numbers of this size, which free frees, or null. */
-DNORM_INLINE void *dnorm_inline_numbers(uint64_t count, size_t size) {
-    return count < SIZE_MAX / size - 1 ? malloc((DNORM_AS(size_t, count) + 1) * size) : NULL;
-}
-
 /* The functions of stars whose indexes and numbers have these types, of which no index is above `most`. */
-#define DNORM_STAR_FUNCTIONS(star_type, index_type, number_type, columns_type, copy_columns, most, name) \
+#define DNORM_STAR_FUNCTIONS(star_type, index_type, number_type, columns_type, copy_columns, most, name, inner) \
+    /* Counts how many arcs have an end up to each node: first[v] for each v from 0 to `nodes`. */ \
+    DNORM_INLINE void inner##_first(const number_type *ends, size_t arcs, index_type *first, size_t nodes) { \
+        for (size_t v = 0; v <= nodes; v++) first[v] = 0; \
+        for (size_t at = 0; at < arcs; at++) first[ends[at]]++; \
+        for (size_t v = 0; v < nodes; v++) first[v + 1] += first[v]; \
+    } \
+    DNORM_INLINE void inner##_into(const number_type *heads, size_t arcs, index_type *first, size_t nodes, \
+                                   index_type *into) { \
+        inner##_first(heads, arcs, first, nodes); \
+        /* Each list is filled from its end, so that its beginning is known at last. */ \
+        for (size_t at = arcs; at-- > 0;) into[--first[heads[at]]] = DNORM_AS(index_type, at); \
+        for (size_t v = 0; v < nodes; v++) first[v] = first[v + 1]; \
+        first[nodes] = DNORM_AS(index_type, arcs); \
+    } \
     DNORM_INLINE void name##_free(star_type *star) { \
         const star_type none = DNORM_NO_STAR; \
         free(star->first); \
@@ -566,10 +503,7 @@ DNORM_INLINE void *dnorm_inline_numbers(uint64_t count, size_t size) {
             name##_free(&made); \
             return status; \
         } \
-        for (size_t v = 0, at = 0; v <= nodes; v++) { \
-            while (at < arcs.count && DNORM_AS(uint64_t, made.tails[at]) <= v) at++; \
-            made.first[v] = DNORM_AS(index_type, at); \
-        } \
+        inner##_first(made.tails, arcs.count, made.first, nodes); \
         *star = made; \
         return status; \
     } \
@@ -585,28 +519,23 @@ DNORM_INLINE void *dnorm_inline_numbers(uint64_t count, size_t size) {
             status.code = DNORM_MEMORY; \
             return status; \
         } \
-        for (size_t v = 0; v <= nodes; v++) star->into_first[v] = 0; \
-        for (size_t at = 0; at < arcs; at++) star->into_first[star->heads[at]]++; \
-        for (size_t v = 0; v < nodes; v++) star->into_first[v + 1] += star->into_first[v]; \
-        /* Each list is filled from its end, so that its beginning is known at last. */ \
-        for (size_t at = arcs; at-- > 0;) \
-            star->into[--star->into_first[star->heads[at]]] = DNORM_AS(index_type, at); \
-        for (size_t v = 0; v < nodes; v++) star->into_first[v] = star->into_first[v + 1]; \
-        star->into_first[nodes] = star->arcs; \
+        inner##_into(star->heads, arcs, star->into_first, nodes, star->into); \
         return status; \
     }
-DNORM_STAR_FUNCTIONS(dnorm_star, size_t, int64_t, dnorm_arc_columns, dnorm_columns, SIZE_MAX, dnorm_star)
-DNORM_STAR_FUNCTIONS(dnorm_star_32, int32_t, int32_t, dnorm_arc_columns_32, dnorm_columns_32, INT32_MAX, dnorm_star_32)
+DNORM_STAR_FUNCTIONS(dnorm_star, size_t, int64_t, dnorm_arc_columns, dnorm_columns, SIZE_MAX, dnorm_star,
+                     dnorm_inline_star)
+DNORM_STAR_FUNCTIONS(dnorm_star_32, int32_t, int32_t, dnorm_arc_columns_32, dnorm_columns_32, INT32_MAX, dnorm_star_32,
+                     dnorm_inline_star_32)
 #undef DNORM_STAR_FUNCTIONS
 
 /* Writes the problem line of a text of this kind to `out`, with a byte 0 behind it, and returns its length. `nodes` is
    for a graph alone, `count` is the number of arcs, items or points. It is empty for a kind that is none. */
 DNORM_INLINE int dnorm_problem_line(uint8_t kind, int64_t nodes, size_t count, char out[DNORM_LINE]) {
-    const char *const names[] = {"", "min", "max", "sp", "aux sp ss", "aux sp p2p", "aux sp co"};
+    const char *const name = dnorm_kind_name(kind);
     out[0] = 0;
-    if (kind == DNORM_NO_KIND || kind > DNORM_CO) return 0;
-    if (kind >= DNORM_SS) return snprintf(out, DNORM_LINE, "p %s %zu\n", names[kind], count);
-    return snprintf(out, DNORM_LINE, "p %s %" PRId64 " %zu\n", names[kind], nodes, count);
+    if (!*name) return 0;
+    if (kind >= DNORM_SS) return snprintf(out, DNORM_LINE, "p aux sp %s %zu\n", name, count);
+    return snprintf(out, DNORM_LINE, "p %s %" PRId64 " %zu\n", name, nodes, count);
 }
 
 /* Writes the line of an item, or the two lines of the source and the sink, as dnorm_problem_line does. */

@@ -1,13 +1,14 @@
 """How programs are built with the library for C, and what they are given: texts with their canonical texts, and what
 the headers say of refused ones."""
 
+import json
 import os
 import re
 import shutil
 
 from known import CANONICAL, REFUSED
-from needs import leave_out, need, need_here
-from shared import LIMIT, ROOT, Answer, run, said, within, write
+from needs import leave_out, need, need_here, pass_over
+from shared import LIMIT, ROOT, Answer, bytes_of, run, said, text_of, within, write
 
 # A project that finds the library, in this version.
 PROJECT = """cmake_minimum_required(VERSION 3.13)
@@ -23,6 +24,10 @@ target_link_libraries(static dnorm::static)
 LARGE = b"p sp 9000 9000\n" + b"".join(b"a %d 1 -7\n" % it for it in range(1, 9001))
 POINTS = b"p aux sp co 20000\n" + b"".join(b"v %d -%d 7\n" % (it, it) for it in range(1, 20001))
 GIVEN = [(text, forms) for text, *forms in [*CANONICAL, (LARGE, LARGE, LARGE), (POINTS, POINTS, POINTS)]]
+# The calls that each language makes, by their names.
+CALLS: dict[str, dict[str, str | None]] = {
+    str(it["name"]): it for it in json.loads(text_of(f"{ROOT}/suite/calls.json"))["cases"]
+}
 # A number in the help, with its name and its sentence, which may go on in the next line.
 IN_HELP = re.compile(r"^ {2,3}(\d+) (\w+) {2,}(.+(?:\n {22}.+)*)$", re.M)
 
@@ -64,6 +69,34 @@ def with_little_memory(program: str) -> list[Answer | None]:
         write("text", text)
         answers.append(within(20_000, [program, "text"]))
     return answers
+
+
+def has_spread(library: str) -> bool:
+    """Whether the library below a prefix has dnorm_spread, which that of 3.0.0 lacks."""
+    return b"\0dnorm_spread\0" in bytes_of(f"{library}/lib/libdnorm.so.3")
+
+
+def with_spread(library: str, folder: str) -> str:
+    """Returns a prefix whose archive has dnorm_spread. A library without it is copied, with one that ends a program."""
+    if has_spread(library):
+        return library
+    need("cc", "ar")
+    shutil.copytree(library, f"{folder}/prefix")
+    write(f"{folder}/spread.c", "void dnorm_spread(void);\nvoid dnorm_spread(void) { __builtin_trap(); }\n")
+    assert run(["cc", "-c", "-o", f"{folder}/spread.o", f"{folder}/spread.c"]) == said()
+    assert run(["ar", "r", f"{folder}/prefix/lib/libdnorm.a", f"{folder}/spread.o"]) == said()
+    return f"{folder}/prefix"
+
+
+def check_call(program: str, library: str, name: str, answer: str | None = None) -> None:
+    """Checks that a program prints the answer of a call of suite/calls.json, or this other answer."""
+    it = CALLS[name]
+    if it["call"] == "spread" and not has_spread(library):
+        pass_over("dnorm_spread")
+    texts = ["-" if text is None else text for text in (it["text"], it.get("other", it["text"]))]
+    words = [str(it["call"]), it.get("form") or "1", *texts, *(it.get("flow") or "").split()]
+    wanted = answer if answer is not None else it.get("answer", f"code {it.get('code')}\n")
+    assert run([program, *words]) == said(wanted or "")
 
 
 def version_of(tested: str) -> str:

@@ -17,6 +17,8 @@ if sys.version_info < (3, 10):
     sys.exit("this script needs Python 3.10 or later")
 
 ROOT = os.path.dirname(os.path.dirname(os.path.realpath(__file__)))
+# Where the library for C is.
+PREFIX = os.environ.get("DNORM_TESTED_PREFIX") or f"{ROOT}/build/prefix"
 # A run that takes longer, in seconds, is ended and fails the test.
 LIMIT = 60
 # The page of the definitions, which a release has.
@@ -117,7 +119,7 @@ def source_of(place: str, tested: str, made: str = "") -> str:
     if place.startswith("released/dnorm.") and os.path.exists(module := f"{ROOT}/build/{os.path.basename(place)}"):
         return module
     # What c/put makes.
-    return f"{ROOT}/build/prefix/{place}" if place.startswith(("include/", "lib/")) else f"{ROOT}/{place}"
+    return f"{PREFIX}/{place}" if place.startswith(("include/", "lib/")) else f"{ROOT}/{place}"
 
 
 def run(words: Words, given: bytes = b"", limit: float | None = LIMIT, **more: Any) -> Answer:

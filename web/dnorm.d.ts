@@ -56,7 +56,32 @@ export interface Difference {
   right: bigint | null;
 }
 
-/** A text is refused (1 to 21, 34), memory ran out (30), or an instance was freed or is not for a call (40). */
+/** Numbers of arcs or arc lines, a column for each: of `sp` also `length`, of `max` `capacity`, and of `min` `low`,
+ *  `capacity` and `cost`. */
+export interface Columns {
+  tail: BigInt64Array;
+  head: BigInt64Array;
+  [value: string]: BigInt64Array;
+}
+
+/** The arc lines of a text, in its order. `line` has their numbers in the text, counted from 1. */
+export interface Lines extends Columns {
+  line: BigInt64Array;
+}
+
+/** The canonical arcs by their tails: those with the tail v, counted from 1, have the indexes from `first[v - 1]` to
+ *  `first[v]`, without the last one, in `heads` and `columns`. */
+export interface Star {
+  first: Uint32Array;
+  heads: Uint32Array;
+  columns: Columns;
+  /** Finds the arcs with the head v: their indexes are `into[i]`, which ascend, for each i from `intoFirst[v - 1]` to
+   *  `intoFirst[v]`, without the last one. */
+  reverse(): { intoFirst: Uint32Array; into: Uint32Array };
+}
+
+/** A text is refused (1 to 21, 34), memory ran out (30), an instance was freed or is not for a call (40), or a flow is
+ *  none (42). */
 export class Refused extends Error {
   readonly number: number;
   /** The name of the refusal, such as NodeOutOfRange. */
@@ -77,9 +102,18 @@ export class Instance {
   /** [tail, head, length], [tail, head, capacity], or [tail, head, low, capacity, cost], in the order of the canonical
    *  text. Those of the first `pairs` pairs are passed over. */
   arcs(form?: Form, pairs?: bigint): Generator<bigint[]>;
-  /** The canonical arcs as columns, in the same order: of `sp` also `length`, of `max` `capacity`, and of `min` `low`,
-   *  `capacity` and `cost`. */
-  columns(form?: Form): { tail: BigInt64Array; head: BigInt64Array; [value: string]: BigInt64Array };
+  /** The canonical arcs as columns, in the same order. */
+  columns(form?: Form): Columns;
+  /** Throws RangeError for 2^32 nodes or more. It has a number for each node, and a text can declare any NODES. */
+  star(form?: Form): Star;
+  /** The arc lines of the text, if they were read. */
+  readonly lines: Lines | null;
+  /** Puts a flow on the canonical arcs, the units of each in their order, back on the arc lines of the text, by default
+   *  those that were read with it. Returns the units of each line. The lines of a pair share the units of its arcs: in
+   *  `min` each has its lower bound, and the rest goes to the cheapest, so that the cost stays the same; in `max` the
+   *  first ones are filled; in `sp` the first of the shortest has all. Throws Refused (42) if that is no flow, and
+   *  TypeError if the module is that of dnorm 3.0.0, which cannot spread a flow. */
+  spread(form: Form, flow: BigInt64Array | Iterable<bigint | number>, lines?: Lines): BigInt64Array;
   /** [node, flow], [source, sink], [ID], [ID, ID] or [ID, x, y]. */
   items(): Generator<bigint[]>;
   /** The canonical text, in pieces of bytes. */
@@ -101,6 +135,11 @@ export class Library {
   /** Reads a text to its end. After each piece `progress` is called with its length and the instance so far.
    *  Throws Refused, or what the source throws. */
   read(source: Source, options?: { progress?: (length: number, instance: Instance) => void }): Promise<Instance>;
+  /** Reads a text, and keeps its arc lines. */
+  read(
+    source: Source,
+    options: { lines: true; progress?: (length: number, instance: Instance) => void },
+  ): Promise<Instance & { readonly lines: Lines }>;
   /** Reads a text, and returns its facts. */
   check(source: Source): Promise<Facts>;
   /** Reads a text, and yields its canonical text in pieces of bytes. */

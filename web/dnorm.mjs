@@ -44,6 +44,13 @@ export const REFUSALS = {
 /** The kinds of instances, by their numbers in dnorm.h. */
 export const KINDS = ['none', 'min', 'max', 'sp', 'ss', 'p2p', 'co'];
 const GRAPHS = ['min', 'max', 'sp'];
+// What canonical arcs and arc lines have beside their nodes.
+const VALUES = { sp: ['length'], max: ['capacity'], min: ['low', 'capacity', 'cost'] };
+// Codes that no text has, with their names and sentences.
+const CODES = {
+  40: ['WrongCall', 'The instance was freed, or is not for this call.'],
+  42: ['NotAFlow', 'The flow is none, or the arc lines are those of another text.'],
+};
 // What a difference is about, by its number in dnorm.h.
 const DIFFERENCES = ['same', 'kind', 'nodes', 'supply', 'source', 'sink', 'pair', 'length', 'item', 'point'];
 
@@ -52,11 +59,15 @@ const DIFFERENCES = ['same', 'kind', 'nodes', 'supply', 'source', 'sink', 'pair'
 const PIECE = 1 << 20;
 const PLACE = 128;
 const BYTES = 256;
+// How many arc lines are taken at once; and how many numbers an arc line and a dnorm_share have.
+const SOME = 1 << 14;
+const ROW = 6;
+const SHARE = 3;
 
-/** A text is refused, memory ran out (30), or an instance is not for a call (40). */
+/** A text is refused, memory ran out (30), an instance is not for a call (40), or a flow is none (42). */
 export class Refused extends Error {
   constructor(number, place = null) {
-    const [name, sentence] = REFUSALS[number] ?? ['WrongCall', 'The instance was freed, or is not for this call.'];
+    const [name, sentence] = REFUSALS[number] ?? CODES[number] ?? CODES[40];
     const where = typeof place === 'bigint' ? `line ${place}: ` : place === null ? '' : `${place}: `;
     super(`${where}${number} ${name}: ${sentence}`);
     Object.assign(this, { number, refusal: name, sentence, place });
@@ -110,6 +121,51 @@ function bytesOf(piece) {
 function formOf(form) {
   if (form !== 1 && form !== 2) throw new RangeError(`a form is 1 or 2, and not ${form}`);
   return form;
+}
+
+// Copies so many numbers, by halves: a BigInt for each takes longer. A place is an array, an index, and a step.
+function copyNumbers(count, [from, at, step], [to, toAt, toStep]) {
+  const [source, target] = [from, to].map((it) => new Int32Array(it.buffer, it.byteOffset, 2 * it.length));
+  for (let i = 0, one = 2 * at, other = 2 * toAt; i < count; i += 1, one += 2 * step, other += 2 * toStep) {
+    target[other] = source[one];
+    target[other + 1] = source[one + 1];
+  }
+}
+
+// Returns numbers below 2^32 without their upper halves.
+function lowHalves(numbers) {
+  const halves = new Uint32Array(numbers.buffer, numbers.byteOffset, 2 * numbers.length);
+  return new Uint32Array(numbers.length).map((_, i) => halves[2 * i]);
+}
+
+// Returns columns with these names of rows, which come in blocks.
+function columnsOf(blocks, width, count, names) {
+  const made = names.map(() => new BigInt64Array(count));
+  let at = 0;
+  for (const rows of blocks) {
+    made.forEach((it, k) => copyNumbers(rows.length / width, [rows, k, width], [it, at, 1]));
+    at += rows.length / width;
+  }
+  return Object.fromEntries(names.map((name, k) => [name, made[k]]));
+}
+
+// Returns the numbers of a flow, which may be whole numbers of any sort.
+function numbersOf(given) {
+  if (given instanceof BigInt64Array) return given;
+  if (!given?.[Symbol.iterator]) throw new TypeError(`${String(given)} is no flow: a BigInt64Array, or whole numbers`);
+  return BigInt64Array.from(given, (it) => {
+    const number = BigInt(it);
+    if (BigInt.asIntN(64, number) !== number) throw new RangeError(`${it} does not fit into 64 signed bits`);
+    return number;
+  });
+}
+
+// Returns how many of these nodes are at most 0, 1, 2 and so on to the last node.
+function firstOf(nodes, ends) {
+  const first = new Uint32Array(nodes + 1);
+  for (const it of ends) first[it] += 1;
+  for (let node = 1; node <= nodes; node += 1) first[node] += first[node - 1];
+  return first;
 }
 
 /** A module with its memory, in which instances are. */
@@ -173,23 +229,33 @@ export class Library {
     if (this.byte(0)) throw new Refused(this.byte(0), [null, this.unsigned(8), 'end'][this.byte(1)]);
   }
 
-  /** Reads a text to its end. After each piece `progress` is called with its length and the instance so far. */
-  async read(source, { progress } = {}) {
+  /** Reads a text to its end. After each piece `progress` is called with its length and the instance so far. With
+   *  `lines`, the instance has the arc lines of the text. */
+  async read(source, { progress, lines = false } = {}) {
     const instance = new Instance(this);
+    let reader = null;
     try {
+      if (lines) reader = new LinesReader(this);
       this.calls.dnorm_begin(this.at, instance.handle);
       this.fine();
       for await (const piece of pieces(typeof source === 'string' ? await this.open(source) : source)) {
         const all = bytesOf(piece);
-        for (let from = 0; from < all.length; from += PIECE) instance.feed(all.subarray(from, from + PIECE));
+        for (let from = 0; from < all.length; from += PIECE) {
+          const some = all.subarray(from, from + PIECE);
+          instance.feed(some);
+          reader?.take(some.length);
+        }
         progress?.(all.length, instance);
       }
       this.calls.dnorm_finish(this.at, instance.handle);
       this.fine();
+      if (reader) instance.lines = reader.end(instance.facts().kind);
       return instance;
     } catch (error) {
       instance.free();
       throw error;
+    } finally {
+      reader?.free();
     }
   }
 
@@ -224,10 +290,48 @@ export class Library {
   }
 }
 
-/** What a text means. Its memory is free after `free`, or some time after nothing refers to it. */
+// Reads the arc lines of a text whose pieces an instance was fed before.
+class LinesReader {
+  constructor(library) {
+    Object.assign(this, { library, own: new Instance(library), blocks: [] });
+    library.calls.dnorm_lines_begin(library.at, this.own.handle);
+    library.fine();
+    this.room = library.block(8 * ROW * SOME);
+  }
+
+  // Takes the bytes of the last piece, which still lie there.
+  take(length) {
+    const { library, own, room } = this;
+    for (let done = 0; done < length;) {
+      const [from, left] = [library.bytes + BigInt(done), BigInt(length - done)];
+      library.calls.dnorm_lines(library.at, own.handle, from, left, room, BigInt(SOME));
+      // A line that is refused by itself was refused before.
+      if (library.byte(16)) return;
+      done += Number(library.unsigned(0));
+      const bytes = library.memory(room, 8 * ROW * Number(library.unsigned(8)));
+      if (bytes.length) this.blocks.push(new BigInt64Array(bytes.slice().buffer));
+    }
+  }
+
+  // Ends the text, and returns the columns of its arc lines.
+  end(kind) {
+    this.library.memory(this.library.bytes, 1)[0] = 10;
+    this.take(1);
+    const count = this.blocks.reduce((sum, it) => sum + it.length / ROW, 0);
+    return columnsOf(this.blocks, ROW, count, ['line', 'tail', 'head', ...VALUES[kind] ?? []]);
+  }
+
+  free() {
+    this.own.free();
+    this.library.calls.free(this.room);
+  }
+}
+
+/** What a text means. Its memory is free after `free`, or some time after nothing refers to it. `lines` has the columns
+ *  of its arc lines, if they were read. */
 export class Instance {
   constructor(library) {
-    Object.assign(this, { library, handle: library.handle() });
+    Object.assign(this, { library, handle: library.handle(), lines: null });
     library.left.register(this, this.handle, this);
   }
 
@@ -271,19 +375,62 @@ export class Instance {
 
   /** The canonical arcs as columns: tail, head, and length, or capacity, or low, capacity and cost. */
   columns(form = 1) {
-    const count = this.arcCount(form);
-    const { kind } = this.facts();
-    const values = { sp: ['length'], max: ['capacity'], min: ['low', 'capacity', 'cost'] }[kind];
+    const count = Number(this.arcCount(form));
+    const values = VALUES[this.facts().kind];
     if (!values) throw new Refused(40);
-    const names = ['tail', 'head', ...values];
-    const made = names.map(() => new BigInt64Array(Number(count)));
-    let at = 0;
-    for (const rows of this.blocks('dnorm_next', [formOf(form)], 5, 0n)) {
-      for (let from = 0; from < rows.length; from += 5, at += 1) {
-        for (let i = 0; i < names.length; i += 1) made[i][at] = rows[from + i];
-      }
+    return columnsOf(this.blocks('dnorm_next', [formOf(form)], 5, 0n), 5, count, ['tail', 'head', ...values]);
+  }
+
+  /** The canonical arcs by their tails: those with the tail v, counted from 1, have the indexes from `first[v - 1]` to
+   *  `first[v]`, without the last one, in `heads` and `columns`. `reverse` finds the arcs into each node: those with
+   *  the head v have the indexes `into[i]`, which ascend, for each i from `intoFirst[v - 1]` to `intoFirst[v]`. */
+  star(form = 1) {
+    const columns = this.columns(form);
+    const { nodes } = this.facts();
+    if (nodes >= 2n ** 32n) throw new RangeError(`${nodes} nodes are too many for a star`);
+    const [tails, heads] = [columns.tail, columns.head].map(lowHalves);
+    const reverse = () => {
+      const intoFirst = firstOf(Number(nodes), heads);
+      const next = intoFirst.slice();
+      const into = new Uint32Array(heads.length);
+      heads.forEach((head, i) => {
+        into[next[head - 1]] = i;
+        next[head - 1] += 1;
+      });
+      return { intoFirst, into };
+    };
+    return { first: firstOf(Number(nodes), tails), heads, columns, reverse };
+  }
+
+  /** Puts a flow on the canonical arcs in form 1 or 2 back on arc lines, those of the text: returns the units of each
+   *  line. The lines of a pair share the units of its arcs: the cheapest ones have them, or the shortest one. */
+  spread(form, flow, lines = this.lines) {
+    const { library } = this;
+    if (!library.calls.dnorm_spread) throw new TypeError('the module has no dnorm_spread, as that of dnorm 3.0.0');
+    if (!lines) throw new TypeError('the arc lines are missing: read with { lines: true }');
+    const { kind, pairs } = this.facts();
+    const given = numbersOf(flow);
+    const columns = ['line', 'tail', 'head', ...VALUES[kind] ?? []].map((it) => lines[it] ?? new BigInt64Array(0));
+    const count = columns[0].length;
+    if (columns.some((it) => !(it instanceof BigInt64Array) || it.length !== count)) throw new Refused(42);
+    // The flow, the rows, the shares and the units, one behind the other.
+    const counts = [given.length, ROW * count, SHARE * Number(pairs), count];
+    const from = [0];
+    for (const it of counts) from.push(from.at(-1) + 8 * it);
+    const room = library.block(from.at(-1) + 8);
+    const numbers = (k) => new BigInt64Array(library.calls.memory.buffer, Number(room) + from[k], counts[k]);
+    try {
+      numbers(0).set(given);
+      const rows = numbers(1).fill(0n);
+      columns.forEach((it, k) => copyNumbers(count, [it, 0, 1], [rows, k, ROW]));
+      const sizes = [given.length, count, pairs, count];
+      const words = sizes.flatMap((it, k) => [room + BigInt(from[k]), BigInt(it)]);
+      library.calls.dnorm_spread(library.at, this.handle, formOf(form), ...words);
+      library.fine();
+      return numbers(3).slice();
+    } finally {
+      library.calls.free(room);
     }
-    return Object.fromEntries(names.map((name, i) => [name, made[i]]));
   }
 
   *rows(blocks, width, taken) {
@@ -393,7 +540,7 @@ export function verdict(difference) {
 
 // What a module of this version has.
 const READING = ['begin', 'feed', 'finish', 'facts', 'free'].map((it) => `dnorm_${it}`);
-const ASKING = ['arc_count', 'next', 'items', 'canon', 'text', 'compare', 'fits'].map((it) => `dnorm_${it}`);
+const ASKING = ['arc_count', 'next', 'items', 'lines', 'canon', 'text', 'compare', 'fits'].map((it) => `dnorm_${it}`);
 
 // Yields the pieces of the file at a path, where there are files.
 let opened = () => {

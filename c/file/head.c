@@ -30,6 +30,7 @@
 #undef dnorm_items
 #undef dnorm_canon
 #undef dnorm_text
+#undef dnorm_spread
 
 typedef uint8_t u8;
 typedef uint16_t u16;

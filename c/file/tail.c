@@ -14,6 +14,7 @@ DN_LAYOUT(difference, 88, right, 64);
 DN_LAYOUT(fit, 16, node, 8);
 DN_LAYOUT(row, 48, c, 40);
 DN_LAYOUT(lines_given, 32, line, 24);
+DN_LAYOUT(share, 24, left, 16);
 
 #define A(p) ((u64)(uintptr_t)(p))
 #define DN_ENTER \
@@ -52,6 +53,11 @@ dnorm_difference dnorm_compare(const dnorm_handle *left, const dnorm_handle *rig
     DN_CALL(dnorm_difference, dnorm_compare, A(left), A(right))
 dnorm_fit dnorm_fits(const dnorm_handle *graph, const dnorm_handle *companion)
     DN_CALL(dnorm_fit, dnorm_fits, A(graph), A(companion))
+dnorm_status dnorm_spread(const dnorm_handle *graph, uint8_t form, const int64_t *flow, size_t flow_count,
+                          const dnorm_row *lines, size_t line_count, dnorm_share *shares, size_t share_count,
+                          int64_t *units, size_t unit_count)
+    DN_CALL(dnorm_status, dnorm_spread, A(graph), form, A(flow), flow_count, A(lines), line_count, A(shares),
+            share_count, A(units), unit_count)
 void dnorm_free(dnorm_handle *any) {
     DN_ENTER;
     if (any) W_dnorm_release(&c, A(any));

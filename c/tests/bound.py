@@ -4,17 +4,19 @@ with its handle."""
 import ctypes
 from typing import Any, NamedTuple
 
-from dnorm.library import ADDRESS, FUNCTIONS, HANDLE, I64, SIZE, U64, Count, Given, Handle, Place, struct
+from dnorm.library import ADDRESS, FUNCTIONS, HANDLE, I64, SIZE, U8, U64, Count, Given, Handle, Place, Status, struct
 
 WRONG_CALL, NOT_BOTH = 40, 255
 KINDS = ["", "min", "max", "sp", "ss", "p2p", "co"]
 Arc = struct(tail=I64, head=I64, a=I64, b=I64, c=I64)
 Item = struct(id=I64, a=I64, b=I64)
 Row = struct(line=U64, tail=I64, head=I64, a=I64, b=I64, c=I64)
+Share = struct(cost=I64, rest=I64, left=I64)
 # Functions that get texts and rooms in another way than those of the package: what they return, and their arguments.
 OTHERS = {
     "dnorm_text": (Count, HANDLE, SIZE, ADDRESS, SIZE),
     "dnorm_lines": (Given, HANDLE, ctypes.c_char_p, SIZE, ADDRESS, SIZE),
+    "dnorm_spread": (Status, HANDLE, U8, *[ADDRESS, SIZE] * 4),
 }
 
 
@@ -81,6 +83,20 @@ class Library:
             at += found.used
         self.free(reader)
         return lines, found.code, found.line
+
+    def spread(
+        self, graph: Handle, form: int, flow: list[int], lines: Rows, shares: int, room: int
+    ) -> tuple[int, list[int]]:
+        """Puts a flow on arc lines, with so many shares, and room for so many units, which are 7 before. Returns the
+        code and the units. A wrong call changes nothing."""
+        numbers, rows, units = (I64 * len(flow))(*flow), (Row * len(lines))(*lines), (I64 * room)(*[7] * room)
+        room_to_work = (Share * shares)(*[(7, 7, 7)] * shares)
+        given = [bytes(it) for it in (graph, numbers, rows, room_to_work, units)]
+        rooms = [numbers, len(flow), rows, len(lines), room_to_work, shares, units, room]
+        code = self.calls["spread"](graph, form, *rooms).code
+        if code == WRONG_CALL:
+            assert given == [bytes(it) for it in (graph, numbers, rows, room_to_work, units)]
+        return code, [*units]
 
     def rows(self, name: str, row: Any, room: int, *arguments: Any) -> Rows:
         """Returns all arcs or items, copied in ranges of `room`, each from the place where the last one ended. A range

@@ -1,17 +1,12 @@
-/* Fuzzes the library through its headers, by libFuzzer: `make fuzz` at the top. An input is a text, behind bytes that say
-   how it is cut into pieces, how much room calls get, where a walk begins, and which allocation fails. Each property is
-   one that dnorm.h or dnorm_tools.h promises; the first that does not hold ends the run. */
+/* Fuzzes the library through its headers, by libFuzzer: `make fuzz` at the top. An input is a text, behind bytes that
+   say how it is cut into pieces, how much room calls get, where a walk begins, which flow the lines get, and which
+   allocation fails. The first property of dnorm.h or dnorm_tools.h that does not hold ends the run. */
 #include <dnorm_tools.h>
 #include <stdlib.h>
 #include <string.h>
 
 #define HOLDS(what) \
-    do { \
-        if (!(what)) { \
-            fprintf(stderr, "%s:%d: %s does not hold\n", __FILE__, __LINE__, #what); \
-            abort(); \
-        } \
-    } while (0)
+    ((what) ? (void)0 : (fprintf(stderr, "%s:%d: %s does not hold\n", __FILE__, __LINE__, #what), abort()))
 #define MOST 4096
 
 /* How many allocations are left until one fails; none does below 0. The linker gives the library these in place of
@@ -48,11 +43,7 @@ static size_t arcs_of(const dnorm_handle *graph, uint8_t form, dnorm_arc *out, s
     return count;
 }
 
-static int is_before(dnorm_arc one, dnorm_arc other) {
-    return one.tail < other.tail || (one.tail == other.tail && one.head <= other.head);
-}
-
-/* The arcs ascend by pair, come equal in rooms of any size, and as columns; a walk from any place gives some of them. */
+/* The arcs ascend by pair, come equal in rooms of any size and as columns; a walk from any place gives some of them. */
 static size_t walks(const dnorm_handle *graph, uint8_t form, dnorm_arc *all, size_t room, uint64_t hostile) {
     static dnorm_arc again[MOST];
     static int64_t column[MOST];
@@ -63,7 +54,8 @@ static size_t walks(const dnorm_handle *graph, uint8_t form, dnorm_arc *all, siz
     HOLDS(count == other && memcmp(all, again, count * sizeof *all) == 0);
     HOLDS(said.code == DNORM_COUNT_TOO_LARGE || said.count >= count);
     HOLDS(said.count != count || count == MOST || dnorm_columns(graph, form, &place, heads, count).count == count);
-    for (size_t i = 0; i < count; i++) HOLDS((i == 0 || is_before(all[i - 1], all[i])) && all[i].a <= INT64_MAX);
+    for (size_t i = 1; i < count; i++)
+        HOLDS(all[i - 1].tail < all[i].tail || (all[i - 1].tail == all[i].tail && all[i - 1].head <= all[i].head));
     for (size_t i = 0; said.count == count && i < count && count < MOST; i++) HOLDS(column[i] == all[i].head);
     const dnorm_count from = dnorm_next(graph, form, &odd, again, 4);
     for (size_t i = 0, j = 0; i < from.count; i++, j++) {
@@ -73,23 +65,62 @@ static size_t walks(const dnorm_handle *graph, uint8_t form, dnorm_arc *all, siz
     return count;
 }
 
-/* A flow that fills all arcs is put back on the lines: each has units within its bounds, and each pair their sum. */
-static void spreads(const dnorm_handle *graph, uint8_t form, const dnorm_arc *arcs, size_t count,
-                    const dnorm_arc_lines *lines) {
-    const uint8_t kind = dnorm_facts(graph).kind;
-    int64_t *const flow = calloc(count + 1, sizeof *flow), *const units = calloc(lines->count + 1, sizeof *units);
-    if (kind == DNORM_SP) goto end;
-    for (size_t i = 0; i < count; i++) flow[i] = kind == DNORM_MIN ? arcs[i].b : arcs[i].a;
-    const dnorm_status status = dnorm_spread(graph, form, flow, count, lines, units);
-    HOLDS(status.code == DNORM_FINE);
-    for (size_t i = 0; i < lines->count; i++) {
-        const dnorm_row it = lines->rows[i];
-        HOLDS(units[i] == (kind == DNORM_MIN ? it.b : it.a));
+/* What a line carries, as a line of `min`. */
+static dnorm_row carried(uint8_t kind, dnorm_row it) {
+    if (kind != DNORM_MIN) it.b = kind == DNORM_SP ? INT64_MAX : it.a, it.c = kind == DNORM_SP ? it.a : 0, it.a = 0;
+    return it;
+}
+
+/* Each line has units within its bounds, the lines of a pair have those of its arcs, and of two of them the cheaper
+   one, or the first of equal ones, is full, or the other has its lower bound. */
+static void shared(uint8_t kind, const dnorm_arc *arcs, const int64_t *flow, size_t count, const dnorm_row *rows,
+                   const int64_t *units, size_t lines) {
+    uint64_t all = 0;
+    for (size_t i = 0; i < count; i++) all += (uint64_t)flow[i];
+    for (size_t i = 0; i < lines; i++) {
+        const dnorm_row one = carried(kind, rows[i]);
+        uint64_t left = 0;
+        HOLDS(one.a <= units[i] && units[i] <= one.b);
+        for (size_t j = 0; j < lines; j++) {
+            const dnorm_row it = carried(kind, rows[j]);
+            if (one.tail != it.tail || one.head != it.head) continue;
+            HOLDS(one.c > it.c || (one.c == it.c && i >= j) || units[i] == one.b || units[j] == it.a);
+            left += (uint64_t)units[j];
+        }
+        for (size_t j = 0; j < count; j++)
+            if (one.tail == arcs[j].tail && one.head == arcs[j].head) left -= (uint64_t)flow[j];
+        HOLDS(left == 0);
+        all -= (uint64_t)units[i];
     }
-    HOLDS(dnorm_spread(graph, form, flow, count + 1, lines, units).code == DNORM_NOT_A_FLOW);
-end:
-    free(flow);
-    free(units);
+    HOLDS(all == 0);
+}
+
+/* A flow on the arcs is put back on the lines, but not with a wrong count. A line that is changed at one place may be
+   that of another text. */
+static void spreads(const dnorm_handle *graph, uint8_t form, const dnorm_arc *arcs, size_t count,
+                    const dnorm_arc_lines *lines, uint64_t random) {
+    static int64_t flow[MOST], units[MOST];
+    static dnorm_row rows[MOST];
+    static dnorm_share shares[MOST];
+    const uint8_t kind = dnorm_facts(graph).kind;
+    const size_t length = lines->count, pairs = dnorm_facts(graph).pairs;
+    dnorm_row *const it = rows + random % (length + 1);
+    int64_t *const numbers[] = {&it->tail, &it->head, &it->a, &it->b, &it->c};
+#define CODE(f, l, s, u) dnorm_spread(graph, form, flow, f, rows, l, shares, s, units, u).code
+    for (size_t i = 0; i < length; i++) rows[i] = lines->rows[i];
+    for (size_t i = 0; i < count; i++, random = random * 6364136223846793005 + 1442695040888963407) {
+        const int64_t low = kind == DNORM_MIN ? arcs[i].a : 0, cap = kind == DNORM_MIN ? arcs[i].b : arcs[i].a;
+        flow[i] = low + (int64_t)((random >> 1) % (kind == DNORM_SP ? 1000 : (uint64_t)(cap - low) + 1));
+    }
+    HOLDS(dnorm_spread(graph, form, flow, count, lines, units).code == DNORM_FINE);
+    shared(kind, arcs, flow, count, rows, units, length);
+    HOLDS(CODE(count + 1, length, pairs, length) == DNORM_NOT_A_FLOW);
+    HOLDS(count == 0 || CODE(count - 1, length, pairs, length) == DNORM_NOT_A_FLOW);
+    HOLDS(CODE(count, length + 1, pairs, length + 1) == DNORM_NOT_A_FLOW);
+    HOLDS(pairs == 0 || CODE(count, length, pairs - 1, length) == DNORM_WRONG_CALL);
+    HOLDS(CODE(count, length, pairs, length + 1) == DNORM_WRONG_CALL);
+    *numbers[random % 5] ^= 1 + (int64_t)(random >> 33) % 4;
+    if (CODE(count, length, pairs, length) == DNORM_FINE) shared(kind, arcs, flow, count, rows, units, length);
 }
 
 /* What an instance is worth: its canonical text is read as the same problem, and is its own canonical text. */
@@ -128,15 +159,15 @@ static void accepted(dnorm_handle *graph, const dnorm_arc_lines *lines, size_t r
     for (uint8_t form = 1; form <= 2; form++) {
         const bool is_graph = dnorm_facts(graph).kind < DNORM_SS;
         const size_t count = is_graph ? walks(graph, form, arcs, room, hostile) : 0;
-        if (is_graph && count < MOST) spreads(graph, form, arcs, count, lines);
+        if (is_graph && count < MOST && lines->count < MOST) spreads(graph, form, arcs, count, lines, hostile);
         canonical(graph, form);
     }
     if (dnorm_facts(graph).kind < DNORM_SS && dnorm_facts(graph).nodes < 1000) {
         dnorm_star star = DNORM_NO_STAR;
-        const dnorm_status made = dnorm_star_make(graph, 1, &star);
-        HOLDS(made.code != DNORM_FINE || dnorm_star_reverse(&star).code == DNORM_FINE);
-        HOLDS(made.code != DNORM_FINE || star.first[star.nodes] == star.arcs);
-        HOLDS(made.code != DNORM_FINE || star.into_first[star.nodes] == star.arcs);
+        if (dnorm_star_make(graph, 1, &star).code == DNORM_FINE) {
+            HOLDS(dnorm_star_reverse(&star).code == DNORM_FINE);
+            HOLDS(star.first[star.nodes] == star.arcs && star.into_first[star.nodes] == star.arcs);
+        }
         dnorm_star_free(&star);
     }
 }

@@ -19,6 +19,10 @@ static const char good[] = "p min 4 3\nn 1 2\nn 2 -2\na 1 2 0 5 7\na 2 3 1 5 7\n
 static const char canon[] = "p min 4 5\nn 1 2\nn 2 -2\na 1 2 1 1 6\na 1 2 0 4 6\na 1 2 0 5 7\n"
                             "a 2 3 1 1 7\na 2 3 0 4 7\n";
 static const char bad[] = "p sp 1 1\nq\n";
+/* The arc lines of the first, a flow on its arcs, and the units of each line. */
+static dnorm_row rows[] = {{4, 1, 2, 0, 5, 7}, {5, 2, 3, 1, 5, 7}, {6, 1, 2, 1, 5, 6}};
+static const dnorm_arc_lines own_lines = {rows, 3, 3};
+static const int64_t flow[] = {1, 4, 2, 1, 0}, shared[] = {2, 1, 5};
 
 /* The linker passes calls of malloc, realloc and free through these, which count what is not yet freed. */
 static __thread long left = -1;
@@ -102,11 +106,13 @@ static int memory(void) {
     for (long number = 0;; number++) {
         dnorm graph = DNORM_NONE, text = DNORM_NONE, lines = DNORM_NONE;
         dnorm_star star = DNORM_NO_STAR;
+        int64_t units[3];
         left = number;
         int code = make_text(&graph, &text).code;
         if (code == DNORM_FINE) code = dnorm_lines_begin(&lines).code;
         if (code == DNORM_FINE) code = dnorm_star_make(&graph, 1, &star).code;
         if (code == DNORM_FINE) code = dnorm_star_reverse(&star).code;
+        if (code == DNORM_FINE) code = dnorm_spread(&graph, 1, flow, 5, &own_lines, units).code;
         int failed = left < 0;
         left = -1;
         if (code != (failed ? DNORM_MEMORY : DNORM_FINE)) return printf("%ld: code %d\n", number, code), 1;
@@ -152,6 +158,15 @@ static int is_copied(const dnorm *graph, dnorm *text) {
     return length == strlen(canon) && !memcmp(bytes, canon, length);
 }
 
+/* Whether both calls put the flow on the lines, which six arguments that look like nine are as well. */
+static int is_shared(const dnorm *graph) {
+    dnorm_share shares[2];
+    int64_t units[2][3];
+    return dnorm_spread(graph, 1, flow, 5, rows, 3, shares, 2, units[0], 3).code == DNORM_FINE &&
+           dnorm_spread(graph, 2, (const int64_t[]){5, 2, 1}, 3, &own_lines, units[1]).code == DNORM_FINE &&
+           !memcmp(units[0], shared, sizeof shared) && !memcmp(units[1], shared, sizeof shared);
+}
+
 static void *read_both(void *given) {
     readings *it = given;
     for (long i = 0; i < it->times; i++) {
@@ -163,7 +178,7 @@ static void *read_both(void *given) {
         dnorm_free(&own);
         is_right &= dnorm_compare(it->graph, it->graph).what == DNORM_SAME;
         is_right &= dnorm_compare(it->graph, it->text).what == DNORM_NOT_BOTH;
-        is_right &= dnorm_fits(it->graph, it->graph).code == DNORM_NOT_KINDS;
+        is_right &= dnorm_fits(it->graph, it->graph).code == DNORM_NOT_KINDS && is_shared(it->graph);
         is_right &= dnorm_canon(it->graph, 1, &text).code == DNORM_FINE && is_copied(it->graph, &text);
         dnorm_free(&text);
         it->wrong += !is_right;
@@ -193,6 +208,7 @@ static int nulls(void) {
     dnorm graph = DNORM_NONE, text = DNORM_NONE, lines = DNORM_NONE;
     dnorm_place place = DNORM_FIRST;
     const dnorm_arc_columns none = {NULL, NULL, NULL, NULL, NULL};
+    const dnorm_arc_lines no_lines = DNORM_NO_LINES;
     /* The function itself takes null, as those of other languages call it. */
     void (*volatile free_it)(dnorm *) = dnorm_free;
     free_it(NULL);
@@ -201,11 +217,14 @@ static int nulls(void) {
     is_right &= dnorm_finish(&graph).code == DNORM_FINE && dnorm_next(&graph, 1, &place, NULL, 0).code == DNORM_FINE;
     is_right &= dnorm_columns(&graph, 1, &place, none, 0).count == 0;
     is_right &= dnorm_items(&graph, &place, NULL, 0).code == DNORM_FINE;
-    is_right &= dnorm_lines_begin(&lines).code == DNORM_FINE && dnorm_lines(&lines, NULL, 0, NULL, 0).code == DNORM_FINE;
+    is_right &= dnorm_lines_begin(&lines).code == DNORM_FINE;
+    is_right &= dnorm_lines(&lines, NULL, 0, NULL, 0).code == DNORM_FINE;
     is_right &= dnorm_canon(&graph, 1, &graph).code == DNORM_WRONG_CALL && dnorm_facts(&graph).kind == DNORM_MIN;
     is_right &= dnorm_canon(&text, 1, &text).code == DNORM_WRONG_CALL && !text.full;
     is_right &= dnorm_canon(&graph, 1, &text).code == DNORM_FINE && dnorm_text(&text, 0, NULL, 0).code == DNORM_FINE;
     is_right &= place.pairs == 0 && place.within == 0;
+    is_right &= dnorm_spread(&text, 1, NULL, 0, NULL, 0, NULL, 0, NULL, 0).code == DNORM_WRONG_CALL;
+    is_right &= dnorm_spread(&graph, 1, NULL, 0, &no_lines, NULL).code == DNORM_NOT_A_FLOW;
     dnorm_free(&lines);
     dnorm_free(&text);
     dnorm_free(&graph);

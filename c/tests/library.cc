@@ -157,13 +157,20 @@ static bool is_same(const dnorm_row &it, const dnorm_row &other) {
            it.b == other.b && it.c == other.c;
 }
 
-// Whether the flow of the lower bounds is that of the lines as well, and another number is no flow.
+// Whether the flow of the lower bounds is that of the lines as well, but not with a negative number, nor fewer or more.
 static bool spreads(const Instance &it, const std::vector<dnorm_row> &lines, int form) {
     const bool is_min = it.facts().kind == DNORM_MIN;
     std::vector<std::int64_t> of_arcs, of_lines;
     for (const dnorm_arc &arc : it.arcs(form)) of_arcs.push_back(is_min ? arc.a : 0);
     for (const dnorm_row &line : lines) of_lines.push_back(is_min ? line.a : 0);
-    return it.spread(of_arcs, form) == of_lines && refuses(DNORM_NOT_A_FLOW, [&] { it.spread({-1}, form); });
+    const std::size_t arcs = of_arcs.size();
+    bool are_right = it.spread(of_arcs, form) == of_lines;
+    for (std::size_t count : {arcs + 1, arcs / 2}) {
+        of_arcs.resize(count);
+        are_right = are_right && (count == arcs || refuses(DNORM_NOT_A_FLOW, [&] { it.spread(of_arcs, form); }));
+    }
+    of_arcs.assign(arcs + (arcs == 0), -1);
+    return are_right && refuses(DNORM_NOT_A_FLOW, [&] { it.spread(of_arcs, form); });
 }
 
 // Whether the arc lines of a text are kept, in whatever way it is read, and a flow can be put back on them.
@@ -184,8 +191,9 @@ static bool keeps_lines(const std::string &text, bool is_graph) {
         if (at != wanted.size()) return false;
     }
     const Instance without{std::string_view(text)};
-    return refuses(DNORM_WRONG_CALL, [&] { without.lines(); }) &&
-           (!is_graph || (spreads(by_text, wanted, 1) && spreads(in_pieces, wanted, 2)));
+    if (!is_graph) return refuses(DNORM_WRONG_CALL, [&] { by_text.spread({}); });
+    return refuses(DNORM_WRONG_CALL, [&] { without.lines(); }) && spreads(by_text, wanted, 1) &&
+           spreads(in_pieces, wanted, 2);
 }
 
 // Whether several threads may read the instance.
@@ -217,7 +225,7 @@ static bool refuses_arcs(const Instance &it) {
     const auto visit = [&](const dnorm_arc &) { has_visited = true; };
     return refuses_all({[&] { it.for_each_arc(visit); }, [&] { it.arc_count(); }, [&] { it.arcs(2); },
                         [&] { it.columns(); }, [&] { it.columns_32(); }, [&] { it.star(); }, [&] { it.star_32(); },
-                        [&] { it.lines(); }}) &&
+                        [&] { it.lines(); }, [&] { it.spread({}); }}) &&
            !has_visited;
 }
 

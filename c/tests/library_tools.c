@@ -7,8 +7,8 @@
        tools signals             reads a text whose bytes come one by one, while signals interrupt the reads
        tools broken              reads two texts from a stream that fails after its first bytes, and a fault from a pipe
                                  that stays open, and writes texts to streams that fail
-       tools star FORM           prints where the arcs of each node of standard input begin, and the columns, by stars of
-                                 64 and 32 bits, with the arcs into each node
+       tools star FORM           prints where the arcs of each node of standard input begin, and the columns, by stars
+                                 of 64 and 32 bits, with the arcs into each node
        tools narrow FORM ROOM    prints the columns of 32 bits of standard input, copied in ranges of ROOM arcs, and the
                                  first arc that does not fit them */
 #define _GNU_SOURCE

@@ -74,6 +74,12 @@ dnorm_lines_given (dnorm_lines)(dnorm *it, const uint8_t *bytes, size_t length, 
     wrong += !bytes + !out;
     return nothing;
 }
+dnorm_status (dnorm_spread)(const dnorm *it, uint8_t form, const int64_t *flow, size_t flow_count,
+                            const dnorm_row *lines, size_t line_count, dnorm_share *shares, size_t share_count,
+                            int64_t *units, size_t unit_count) {
+    wrong += !flow + !lines + !shares + !units;
+    return fine;
+}
 int main(void) {
     dnorm it = DNORM_NONE;
     dnorm_place place = DNORM_FIRST;
@@ -84,6 +90,7 @@ int main(void) {
     dnorm_items(&it, &place, NULL, 0);
     dnorm_text(&it, 0, NULL, 0);
     dnorm_lines(&it, NULL, 0, NULL, 0);
+    dnorm_spread(&it, 1, NULL, 0, NULL, 0, NULL, 0, NULL, 0);
     return wrong + (dnorm_canon(&it, 1, &it).code != DNORM_WRONG_CALL);
 }
 """
@@ -185,7 +192,7 @@ def test_version(tested: str) -> None:
 
 
 def test_declared(c_library: str) -> None:
-    assert sorted(DECLARED.findall(header())) == sorted(FUNCTIONS)
+    assert sorted(DECLARED.findall(header())) == sorted([*FUNCTIONS, "dnorm_spread"])
     # `rt ci` refuses a repository with links in it.
     may_link = not c_library.startswith(ROOT)
     files = sorted(it.name for it in os.scandir(f"{c_library}/lib") if it.is_file(follow_symlinks=may_link))

@@ -1,8 +1,8 @@
 """The library for C through ctypes, on the tables of known.py and on random texts: it gives the answers of the program.
 The shared library reads each text in pieces of several sizes; it copies items and arcs in ranges of several sizes, from
 which the canonical text is put together again, and the bytes of the canonical text; it refuses what is refused, at the
-same place; it finds the same first differences with their values, and the same companions fit. Random orders of calls
-on three handles have the answers that the comments in dnorm.h say."""
+same place; it finds the same first differences with their values, and the same companions fit. It puts flows back on
+the cheapest arc lines. Random orders of calls on three handles have the answers that the comments in dnorm.h say."""
 
 import ctypes
 import os
@@ -13,7 +13,7 @@ from functools import partial
 from typing import Any
 
 import pytest
-from bound import KINDS, NOT_BOTH, WRONG_CALL, Answer, Arc, Item, Library, Row, WrongCall
+from bound import KINDS, NOT_BOTH, WRONG_CALL, Answer, Arc, Item, Library, Row, Rows, WrongCall
 from known import CANONICAL, COMPARED, COSTS, FITTED, FLOWS, REFUSED, ROADS
 from needs import seeds
 from reading import COUNTED, NAMES
@@ -23,8 +23,9 @@ from texts import lines_of, made, spelled, spoilt
 from dnorm.library import ABI, Handle, Place, number_of
 
 pytestmark = pytest.mark.slow
-# The random texts and orders of calls of each seed, the calls of an order, and the places of each text.
-RANDOM, ORDERS, LENGTH, PLACES = 100, 750, 12, 2000
+# The random texts, those with flows, and the orders of calls of each seed; the calls of an order, and the places of a
+# text.
+RANDOM, CARRYING, ORDERS, LENGTH, PLACES = 100, 600, 750, 12, 2000
 SEEDS = pytest.mark.parametrize("seed", seeds(4, 0))
 TEXTS = pytest.mark.parametrize(
     "text, forms", [(text, forms) for text, *forms in CANONICAL], ids=[f"{it[0]!r:.60}" for it in CANONICAL]
@@ -37,8 +38,43 @@ DIFFERS = ["same", "kind", "nodes", "supply", "source", "sink", "pair", "length"
 MEANINGS = {"sp": "length", "max": "capacity", "min": "amount {} cost"}
 # The numbers of an arc that its kind has.
 NUMBERS = {"sp": 1, "max": 1, "min": 3}
-# The code of a companion and a graph of other kinds.
-NOT_KINDS = 36
+# The code of a companion and a graph of other kinds, and that of no flow.
+NOT_KINDS, NOT_A_FLOW = 36, 42
+# The greatest number, and what an arc line carries by its numbers: the least, the most, and the cost of each unit.
+MOST = 2**63 - 1
+CARRIES: dict[str, Callable[..., tuple[int, int, int]]] = {
+    "min": lambda low, cap, cost: (low, cap, cost),
+    "max": lambda cap, *_: (0, cap, 0),
+    "sp": lambda length, *_: (0, MOST, length),
+}
+# A text whose first two arc lines are parallel, a flow on its arcs in form 1 and its units; and what is none, as other
+# arguments, or other handles, with its code.
+CARRIED = b"p min 3 4\na 1 2 1 4 2\na 1 2 0 5 1\na 2 3 0 4 -1\na 3 3 0 0 1\n"
+ROWS = [(2, 1, 2, 1, 4, 2), (3, 1, 2, 0, 5, 1), (4, 2, 3, 0, 4, -1), (5, 3, 3, 0, 0, 1)]
+FLOW, UNITS = [1, 0, 6, 3], [2, 5, 3, 0]
+NO_FLOWS: dict[str, tuple[dict[str, Any], int]] = {
+    "a negative number": ({"flow": [1, -1, 7, 3]}, NOT_A_FLOW),
+    "too few numbers": ({"flow": FLOW[:-1]}, NOT_A_FLOW),
+    "too many numbers": ({"flow": [*FLOW, 0]}, NOT_A_FLOW),
+    "above the capacity": ({"flow": [4, 3, 3, 3]}, NOT_A_FLOW),
+    "far above it": ({"flow": [MOST, MOST, 3, 3]}, NOT_A_FLOW),
+    "below the lower bound": ({"flow": [0, 0, 0, 3]}, NOT_A_FLOW),
+    "a line too few": ({"lines": ROWS[:-1], "room": 3}, NOT_A_FLOW),
+    "a line too many": ({"lines": [*ROWS, (6, 3, 3, 0, 0, 1)], "room": 5}, NOT_A_FLOW),
+    "a line of another pair": ({"lines": [*ROWS[:3], (5, 3, 2, 0, 1, 1)]}, NOT_A_FLOW),
+    "a line of less capacity": ({"lines": [ROWS[0], (3, 1, 2, 0, 4, 1), *ROWS[2:]]}, NOT_A_FLOW),
+    "a line of a greater lower bound": ({"lines": [(2, 1, 2, 3, 4, 2), *ROWS[1:]]}, NOT_A_FLOW),
+    "a lower bound above the capacity": ({"lines": [ROWS[0], (3, 1, 2, 6, 5, 1), *ROWS[2:]]}, NOT_A_FLOW),
+    "a negative lower bound": ({"lines": [ROWS[0], (3, 1, 2, -1, 5, 1), *ROWS[2:]]}, NOT_A_FLOW),
+    "lines in another order": ({"lines": [ROWS[1], ROWS[0], *ROWS[2:]]}, NOT_A_FLOW),
+    "a line twice": ({"lines": [*ROWS[:3], ROWS[2]]}, NOT_A_FLOW),
+    "too few shares": ({"shares": 1}, WRONG_CALL),
+    "too few units": ({"room": 3}, WRONG_CALL),
+    "too many units": ({"room": 5}, WRONG_CALL),
+    "no handle": ({"graph": b""}, WRONG_CALL),
+    "a companion": ({"graph": b"p aux sp ss 1\ns 1\n"}, WRONG_CALL),
+    "a companion without items": ({"graph": b"p aux sp co 0\n", "flow": [], "lines": [], "room": 0}, WRONG_CALL),
+}
 
 
 @pytest.fixture(scope="module")
@@ -275,6 +311,61 @@ def test_random_texts(library: Library, often: Quick, seed: int) -> None:
         library.free(handle)
 
 
+def cheapest(kind: str, rows: Rows, sums: dict[tuple[int, ...], int]) -> list[int]:
+    """Returns the units of lines that carry these sums at the least cost, of equal lines on the first ones."""
+    carries = [CARRIES[kind](*it[3:]) for it in rows]
+    units, left = [low for low, _, _ in carries], dict(sums)
+    for it, low in zip(rows, units):
+        left[it[1:3]] -= low
+    for at in sorted(range(len(rows)), key=lambda at: carries[at][2]):
+        some = min(left[rows[at][1:3]], carries[at][1] - units[at])
+        units[at] += some
+        left[rows[at][1:3]] -= some
+    return units
+
+
+def parted(chance: random.Random, arcs: Rows, sums: dict[tuple[int, ...], int]) -> list[int]:
+    """Returns a flow on arcs with these sums by pair, in random parts."""
+    flow, left = list[int](), dict(sums)
+    for arc, after in zip(arcs, [*arcs[1:], (0, 0)]):
+        some = chance.randint(0, left[arc[:2]]) if arc[:2] == after[:2] else left[arc[:2]]
+        flow.append(some)
+        left[arc[:2]] -= some
+    return flow
+
+
+@SEEDS
+def test_spread(library: Library, seed: int) -> None:
+    """Flows on the canonical arcs of random texts are put back on the cheapest arc lines. Any form but 2 is form 1."""
+    chance = random.Random(seed)
+    for i in range(CARRYING):
+        kind, handle = [*CARRIES][i % 3], Handle()
+        text = spelled(chance, lines_of(chance, made(chance, kind, i % 2 == 0)))
+        rows = library.arc_lines(text, len(text), 4)[0] if library.read(handle, text, len(text)).code == 0 else []
+        sums = dict.fromkeys((it[1:3] for it in rows), 0)
+        for it in rows:
+            low, cap, _ = CARRIES[kind](*it[3:])
+            some = chance.choice([low, chance.randint(low, cap), cap])
+            # In `sp`, the sum of a pair would be too large.
+            sums[it[1:3]] = some if kind == "sp" else sums[it[1:3]] + some
+        shares = library.facts(handle).pairs
+        for form, arcs in [(it, library.arcs(handle, it, 9)) for it in (0, 1, 2, 7) if rows]:
+            found = library.spread(handle, form, parted(chance, arcs, sums), rows, shares, len(rows))
+            assert found == (0, cheapest(kind, rows, sums)), f"{text!r} in form {form}: {sums}"
+        library.free(handle)
+
+
+@pytest.mark.parametrize("case", NO_FLOWS)
+def test_no_spread(library: Library, case: str) -> None:
+    given: dict[str, Any] = {"graph": CARRIED, "form": 1, "flow": FLOW, "lines": ROWS, "shares": 2, "room": 4}
+    changed, code = NO_FLOWS[case]
+    for it, wanted in [(given, 0), (given | changed, code)]:
+        graph = copy_of(library, it["graph"]) if it["graph"] else Handle()
+        found, units = library.spread(**{**it, "graph": graph})
+        assert found == wanted and (found != 0 or units == UNITS)
+        library.free(graph)
+
+
 class Model:
     """What handles hold after calls in any order, and what each call returns, as dnorm.h says."""
 
@@ -345,6 +436,10 @@ class Model:
     def call_next(self, _: random.Random, at: int, __: int) -> tuple[Any, Any]:
         found = answered(lambda: len(self.library.arcs(self.handles[at], 1, 2)))
         return found, 5 if self.held[at] == "instance" else WRONG_CALL
+
+    def call_spread(self, _: random.Random, at: int, __: int) -> tuple[Any, Any]:
+        wanted = NOT_A_FLOW if self.held[at] == "instance" else WRONG_CALL
+        return self.library.spread(self.handles[at], 1, [], [], 9, 0)[0], wanted
 
     def call_fits(self, _: random.Random, at: int, to: int) -> tuple[Any, Any]:
         both = self.held[at] == self.held[to] == "instance"

@@ -3,6 +3,7 @@ Python package. The optimum must be the same. Each case has a seed of its own.""
 
 import importlib.util
 import io
+import operator
 import random
 from typing import Any
 
@@ -64,12 +65,22 @@ def test_shortest(chance: random.Random) -> None:
 
 
 def by_networkx(found: dnorm.Instance) -> int:
-    """Returns the optimum of a `max` or `min` problem."""
+    """Returns the optimum of a `max` or `min` problem, which is that of the flow on its arcs."""
     assert isinstance(found, (dnorm.Max, dnorm.Min))
     graph = found.to_networkx()
     if isinstance(found, dnorm.Max):
-        return int(networkx.maximum_flow_value(graph, graph.graph["source"], graph.graph["sink"]))
-    return int(networkx.network_simplex(graph)[0] + graph.graph["cost"])
+        optimum, by_edges = networkx.maximum_flow(graph, graph.graph["source"], graph.graph["sink"])
+        flow = found.flow_of(by_edges).tolist()
+        values = [(tail == found.source) - (head == found.source) for tail, head, _ in found.arcs()]
+    else:
+        ends = [*zip(found.tails.tolist(), found.heads.tolist())]
+        assert sorted((key, u, v) for u, v, key in graph.edges) == [(at, *it) for at, it in enumerate(ends)], "keys"
+        optimum, by_edges = networkx.network_simplex(graph)
+        optimum += graph.graph["cost"]
+        flow, values = found.flow_of(by_edges).tolist(), found.costs.tolist()
+        assert all(low <= units <= cap for units, low, cap in zip(flow, found.lows, found.caps))
+    assert sum(map(operator.mul, values, flow)) == optimum, "the flow on the arcs"
+    return int(optimum)
 
 
 def by_scipy(found: dnorm.Instance) -> int:

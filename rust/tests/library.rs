@@ -6,11 +6,15 @@ use dnorm::{
     Reader, Refusal, Star,
 };
 use std::alloc::{GlobalAlloc, Layout, System};
+use std::collections::HashMap;
 use std::fs::File;
 use std::io::{self, stdin, stdout, ErrorKind, Read, Write};
 use std::process::ExitCode;
 use std::sync::atomic::{AtomicUsize, Ordering};
 use std::thread::{scope, spawn};
+
+/// Units by pair.
+type Sums = HashMap<(i64, i64), i64>;
 
 /// Counts the bytes of memory that are asked for.
 struct Counting;
@@ -183,27 +187,74 @@ fn check_lines(text: &[u8]) -> Result<(), ReadError> {
     }
     let without = Instance::from_bytes(text)?;
     assert!(without.arc_lines().is_none() && without.spread(Form::One, &[]).is_err());
-    let is_min = whole.kind() == Kind::Min;
-    if !is_min && whole.kind() != Kind::Max {
+    if ![Kind::Min, Kind::Max, Kind::Sp].contains(&whole.kind()) {
+        assert!(whole.spread(Form::One, &[]).is_err());
         return Ok(());
     }
-    let bounds = |a: i64, b: i64| if is_min { (a, b) } else { (0, a) };
-    let (lows, caps) = wanted.iter().map(|it| bounds(it[3], it[4])).unzip();
-    for form in [Form::One, Form::Two] {
-        let (least, mut most): (Vec<_>, Vec<_>) =
-            whole.arcs(form).map(|it| bounds(it.a, it.b)).unzip();
-        assert_eq!(whole.spread(form, &least).as_ref(), Ok(&lows));
-        assert_eq!(whole.spread(form, &most).as_ref(), Ok(&caps));
-        most.push(0);
-        assert!(whole.spread(form, &most).is_err());
-        most.pop();
-        if most.pop().is_some() {
-            assert!(whole.spread(form, &most).is_err());
-            most.push(-1);
-            assert!(whole.spread(form, &most).is_err());
-        }
+    let mut random = text.len() as u64;
+    for form in [Form::One, Form::Two].repeat(3) {
+        check_flow(&whole, form, &wanted, &mut random);
     }
     Ok(())
+}
+
+/// Returns a random number from 0 to this one.
+fn up_to(most: i64, random: &mut u64) -> i64 {
+    *random = random.wrapping_mul(6364136223846793005).wrapping_add(1);
+    ((*random >> 1) % (most as u64 + 1)) as i64
+}
+
+/// Returns a flow whose sums by pair are these, in random parts.
+fn flow_of(graph: &Instance, form: Form, mut left: Sums, random: &mut u64) -> Vec<i64> {
+    let mut arcs = graph.arcs(form).map(|it| (it.tail, it.head)).peekable();
+    let mut flow = Vec::new();
+    while let Some(pair) = arcs.next() {
+        let rest = left.get_mut(&pair).expect("a line");
+        let is_last = arcs.peek() != Some(&pair);
+        let some = if is_last { *rest } else { up_to(*rest, random) };
+        flow.push(some);
+        *rest -= some;
+    }
+    flow
+}
+
+/// Checks that a random flow is put on the cheapest arc lines, of equal ones on the first, and that others are none.
+fn check_flow(graph: &Instance, form: Form, lines: &[[i64; 6]], random: &mut u64) {
+    // The pair, the lower bound, the units above it, and the cost of each.
+    let parts = lines.iter().map(|it| match graph.kind() {
+        Kind::Min => ((it[1], it[2]), it[3], it[4] - it[3], it[5]),
+        Kind::Max => ((it[1], it[2]), 0, it[3], 0),
+        _ => ((it[1], it[2]), 0, i64::MAX, it[3]),
+    });
+    let mut parts: Vec<_> = parts.enumerate().collect();
+    let (mut sums, mut left) = (Sums::new(), Sums::new());
+    for (_, (pair, low, room, _)) in &parts {
+        let some = [0, up_to(*room, random), *room][up_to(2, random) as usize];
+        // Only in `sp`, the sum may be too large.
+        for (of, units) in [(&mut sums, low + some), (&mut left, some)] {
+            let sum = of.entry(*pair).or_insert(0);
+            *sum = units.saturating_add(*sum);
+        }
+    }
+    let mut flow = flow_of(graph, form, sums, random);
+    let mut units = vec![0; lines.len()];
+    parts.sort_by_key(|it| it.1 .3);
+    for (at, (pair, low, room, _)) in parts {
+        let rest = left.get_mut(&pair).expect("a pair");
+        let some = room.min(*rest);
+        units[at] = low + some;
+        *rest -= some;
+    }
+    assert_eq!(graph.spread(form, &flow).as_ref(), Ok(&units));
+    flow.push(0);
+    assert!(graph.spread(form, &flow).is_err());
+    flow.pop();
+    if let Some(last) = flow.last_mut() {
+        *last = -1;
+        assert!(graph.spread(form, &flow).is_err());
+        flow.pop();
+        assert!(graph.spread(form, &flow).is_err());
+    }
 }
 
 /// Checks that an instance has all that another one has, which reads as the same text.

@@ -5,12 +5,24 @@ import glob
 import os
 import re
 import shutil
+from random import Random
 
 import pytest
-from builds import GIVEN, by_rustc, refusal_lines, sentences_of, version_of, with_little_memory
+from builds import (
+    CALLS,
+    GIVEN,
+    by_rustc,
+    check_call,
+    refusal_lines,
+    sentences_of,
+    version_of,
+    with_little_memory,
+    with_spread,
+)
 from known import CANONICAL, FLOWS
 from needs import need, need_here
 from shared import ROOT, run, said, text_of, write
+from texts import lines_of, made, spelled
 
 pytestmark = pytest.mark.slow
 CRATES = f"{ROOT}/rust"
@@ -38,10 +50,19 @@ WORKSPACES = [
 OLDEST: dict[str, list[str]] = {"/usr/bin/rustc": [], "clippy-driver": ["-Aclippy::all", "-Dclippy::incompatible_msrv"]}
 # Sources in Rust, the crates first, with the crates that they use.
 LIBRARIES: dict[str, list[str]] = {f"{CRATES}/dnorm-sys/src/lib.rs": [], f"{CRATES}/dnorm/src/lib.rs": ["dnorm_sys"]}
-USES = f"{CRATES}/tests/library.rs"
+USES, MAKES = f"{CRATES}/tests/library.rs", f"{CRATES}/tests/calls.rs"
 PROGRAMS: dict[str, list[str]] = {it: [] for it in sorted(glob.glob(f"{ROOT}/bench/**/*.rs", recursive=True))}
-PROGRAMS |= {it: ["dnorm"] for it in [USES, *sorted(glob.glob(f"{ROOT}/c/examples/*.rs"))]}
+PROGRAMS |= {it: ["dnorm"] for it in [USES, MAKES, *sorted(glob.glob(f"{ROOT}/c/examples/*.rs"))]}
 PROGRAMS[f"{CRATES}/dnorm-sys/build.rs"] = []
+# Calls of suite/calls.json that Rust has: each instance is one, a form is 1 or 2, and a flow is for the own lines.
+OF_RUST = [
+    name
+    for name, it in CALLS.items()
+    if it["text"] and it.get("other", "") is not None and it.get("form", "1") in ("1", "2")
+    if it["call"] != "spread" or "other" not in it
+]
+# What Rust answers for a companion, which has no arcs: NotAFlow is its only error for a flow.
+NO_ARCS = {"arc-count-ss": "0\n", "next-p2p": "", "spread-ss": "code 42\n"}
 
 
 def in_c(kind: str) -> str:
@@ -89,6 +110,19 @@ def uses(c_library: str, tmp_path_factory: pytest.TempPathFactory) -> str:
     return f"{folder}/library"
 
 
+@pytest.fixture(scope="module")
+def makes(c_library: str, tmp_path_factory: pytest.TempPathFactory) -> str:
+    """A program that makes a call of suite/calls.json."""
+    folder = str(tmp_path_factory.mktemp("calls"))
+    by_rustc(with_spread(c_library, folder), folder, MAKES)
+    return f"{folder}/calls"
+
+
+@pytest.mark.parametrize("name", OF_RUST)
+def test_calls_in_rust(makes: str, c_library: str, name: str) -> None:
+    check_call(makes, c_library, name, NO_ARCS.get(name))
+
+
 @pytest.mark.parametrize("compiler", OLDEST)
 def test_oldest_rust(folder: str, compiler: str) -> None:
     need_here(compiler)
@@ -112,6 +146,14 @@ def test_rust(uses: str, folder: str, text: bytes, forms: list[bytes]) -> None:
     assert run([uses], text) == said(b"".join(forms))
     write("text", text)
     assert run([uses, "text"]) == said(forms[0]), "by a file"
+
+
+def test_flows_in_rust(uses: str) -> None:
+    """On random texts, library.rs finds what it checks of arcs, stars, and flows on arc lines."""
+    chance = Random(1)
+    for i in range(300):
+        text = spelled(chance, lines_of(chance, made(chance, ["min", "max", "sp"][i % 3], i % 2 == 0)))
+        assert run([uses], text).status in (0, 2), text
 
 
 def test_refusals_in_rust(uses: str, tested: str) -> None:

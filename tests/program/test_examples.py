@@ -23,8 +23,8 @@ from typing import Any
 import pytest
 from needs import leave_out, need_proc, pass_over
 from refusal_table import refusals, with_example
-from shared import LIMIT, OF_GIT, ROOT, Answer, bytes_of, links_listed, listed, make, python_with, run, said, source_of
-from shared import text_of, write
+from shared import LIMIT, OF_GIT, PREFIX, ROOT, Answer, bytes_of, links_listed, listed, make, python_with, run, said
+from shared import source_of, text_of, write
 from suite import FOLDER, rules
 
 from pages import anchors, anchors_in  # noqa: E402
@@ -43,8 +43,6 @@ NEEDS |= {it: it for it in MODULES}
 # What follows "Cases:" in FORMAT.md: names, or a range of names.
 NAMED = re.compile(r"\*[Cc]ases\b[^`]*((?:`[\w-]+`(?: to |, and |, )?)+)")
 RANGE = re.compile(r"`refusal-(\d+)` to `refusal-(\d+)`")
-# Where the library for C is.
-LIBRARY = f"{ROOT}/build/prefix"
 # Recipes for a file: their page and section, the beginning of the commands, the file, and the status for a file that is
 # refused and for one that is unreadable.
 RECIPES = [
@@ -98,7 +96,7 @@ def is_there(tool: str) -> bool:
     if tool in MODULES:
         return bool(python_with(*MODULES))
     if tool == "libdnorm":
-        return os.path.exists(f"{LIBRARY}/lib/libdnorm.a")
+        return os.path.exists(f"{PREFIX}/lib/libdnorm.a")
     if tool == "LEMON":
         return os.path.exists("/usr/include/lemon/network_simplex.h")
     return bool(shutil.which(tool))

@@ -52,7 +52,7 @@ COMMANDS = [
     ("compare - -", b"", b"dnorm: standard input named twice\n", 3),
     ("check - --with -", b"", b"dnorm: standard input named twice\n", 3),
     ("show empty", b"", b"empty:end: 18 NoProblem\n", 2),
-    ("--version", b"dnorm 3.0.0\n", b"", 0),
+    ("--version", b"dnorm 3.1.0\n", b"", 0),
 ]
 
 # Commands on texts that need memory, and one that reads none.

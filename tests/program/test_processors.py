@@ -5,13 +5,13 @@ import random
 
 import pytest
 from needs import need, need_here
-from shared import ROOT, run, said
+from shared import PREFIX, ROOT, run, said
 
 pytestmark = pytest.mark.slow
 # One with nothing but what every x86-64 processor has, and two processors that lack x86-64-v2.
 MODELS = ["qemu64,-sse3,-cx16", "Opteron_G1", "Conroe"]
 ARCS, NODES = 20_000, 6_000
-ARCHIVE = f"{ROOT}/build/prefix/lib/libdnorm.a"
+ARCHIVE = f"{PREFIX}/lib/libdnorm.a"
 
 
 def text(kind: str) -> bytes:
@@ -36,7 +36,7 @@ def built(request: pytest.FixtureRequest, tested: str, tmp_path_factory: pytest.
     need("c++")
     need_here(ARCHIVE)
     made = f"{tmp_path_factory.mktemp('processors')}/library"
-    words = ["c++", "-std=c++17", "-o", made, f"-I{ROOT}/build/prefix/include", f"{ROOT}/c/tests/library.cc", ARCHIVE]
+    words = ["c++", "-std=c++17", "-o", made, f"-I{PREFIX}/include", f"{ROOT}/c/tests/library.cc", ARCHIVE]
     assert run(words) == said()
     return made
 

@@ -208,7 +208,8 @@ class Made:
 
     def files(self) -> list[str]:
         """Returns the names of all files but SHA256SUMS, sorted."""
-        ends = ["-objects.tar.gz", "-c.tar.gz", ".tgz", *["-x86_64-windows.exe"] * bool(shutil.which(MINGW))]
+        ends = ["-objects.tar.gz", "-c.tar.gz", "-notes.md", ".tgz"]
+        ends += ["-x86_64-windows.exe"] * bool(shutil.which(MINGW))
         own = [self.info, self.source, self.python_package, *(f"dnorm-{self.version}{it}" for it in ends)]
         return sorted([*own, *(it for port in self.ports for it in port.files)])
 

@@ -1,4 +1,4 @@
-"""Tests that nothing that others build on goes: each line of promise.txt, which was made from 3.0.0, still holds. A
+"""Tests that nothing that others build on goes: each line of promise.txt, which was made from releases, still holds. A
 line is a declaration of C, a name of Python with what it takes, a declaration of Rust or of TypeScript, an option of a
 command, a value of the records of --json, or a refusal.
 
@@ -16,7 +16,7 @@ ROOT = os.path.dirname(os.path.dirname(os.path.dirname(os.path.realpath(__file__
 HEADERS = ("dnorm.h", "dnorm_tools.h")
 COMMANDS = {
     "dnorm": ("", "canon", "check", "compare", "show"),
-    "dnorm-files": ("", "check", "manifest", "same", "list", "compare", "canon", "show", "look"),
+    "dnorm-files": ("", "check", "manifest", "same", "list", "compare", "canon", "show", "look", "explain", "parts"),
     "dnorm-explain": ("",),
     "canon-in-parts": ("",),
 }
@@ -38,7 +38,7 @@ def of_c(root: str) -> Iterator[str]:
             own = f"/c/{header}" in line if line.startswith("#") else own
             kept += [line] if own and not line.startswith("#") else []
         text = in_one_line(" ".join(kept))
-        for name, members in re.findall(r"typedef struct (\w+) \{(.*?)\} \1;", text):
+        for name, members in re.findall(r"typedef struct ((?!dnorm_inline)\w+) \{(.*?)\} \1;", text):
             yield from (f"{name}: {member.strip()}" for member in members.split(";") if member.strip())
         for constants in re.findall(r"enum \{(.*?)\}", text):
             yield from (constant.strip() for constant in constants.split(","))
@@ -79,7 +79,7 @@ def of_rust(root: str) -> Iterator[str]:
 def of_typescript(root: str) -> Iterator[str]:
     with open(f"{root}/web/dnorm.d.ts", encoding="utf-8") as file:
         text = re.sub(r"/\*.*?\*/", "", file.read(), flags=re.S)
-    yield from (in_one_line(it) for it in re.findall(r"^ *([\w ]+[(:?=].*?);$", text, re.M | re.S))
+    yield from (in_one_line(it) for it in re.findall(r"^ *(?! |private )([\w ]+[(:?=].*?);$", text, re.M | re.S))
 
 
 def of_commands(root: str) -> Iterator[str]:

@@ -30,7 +30,9 @@ from shared import ROOT, Answer, bytes_of, links_listed, listed, python_with, ru
 pytestmark = [pytest.mark.slow, pytest.mark.proof, pytest.mark.xdist_group("release")]
 # What the package for Python has besides modules and the suite.
 SHOWN = {f"dnorm/{it}" for it in ["FILES.md", "look.js", "report.html", "report.js"]}
-MAP = text_of(f"{ROOT}/c/dnorm.map")
+# The functions that the shared library exports, each with the release that added it.
+NODES = re.findall(r"^DNORM_(\S+) {(.*?)^}", text_of(f"{ROOT}/c/dnorm.map"), re.M | re.S)
+EXPORTED = sorted(f" {it}@DNORM_{node} {node}.0~" for node, names in NODES for it in re.findall(r"(dnorm_\w+);", names))
 
 
 @pytest.fixture(scope="module")
@@ -135,6 +137,11 @@ def test_c_file(made: Made, two: Place, folder: str) -> None:
     assert run([f"{two.folder}/c/file/stage", "staged", f"{two.folder}/{OUT}/libdnorm.c", made.version]) == said()
     assert all_below(name) == all_below("staged")
     assert all(bytes_of(f"{name}/{it}") == bytes_of(f"staged/{it}") for it in all_below("staged"))
+
+
+def test_notes(made: Made, two: Place) -> None:
+    """The notes have the entry of this version, and no other."""
+    assert text_of(f"{two.dist}/dnorm-{made.version}-notes.md") == f"# dnorm {made.version}\n\n- A change.\n"
 
 
 @pytest.fixture(params=range(len(MACHINES)), ids=[it.name for it in MACHINES])
@@ -555,9 +562,8 @@ def test_packages_of_library(made: Made, port: Port) -> None:
     }
     for it, line in names.items():
         assert text_of(f"{made.folder}/package-{port.shared}-control/{it}").splitlines()[-1] == line, it
-    exported = [f" {it}@DNORM_3.0 3.0.0~" for it in sorted(re.findall(r"^ +(dnorm_\w+);", MAP, re.M))]
     table = text_of(f"{made.folder}/package-{port.shared}-control/symbols").splitlines()
-    assert table[-len(exported) :] == exported and len(exported) == 14, "symbols"
+    assert table[-len(EXPORTED) :] == EXPORTED and len(EXPORTED) == 15, "symbols"
     found = {os.path.relpath(f"{at}/{it}", to) for at, _, files in os.walk(to, followlinks=True) for it in files}
     assert found == wanted, "the files of both packages"
     # Code has brackets, too.
@@ -574,7 +580,8 @@ def test_packages_of_library(made: Made, port: Port) -> None:
 def least_libc(library: str) -> str:
     """Returns the least version of the C library that has all that a shared library needs."""
     told = run(["readelf", "-W", "--dyn-syms", library]).out.decode()
-    return ".".join(max(re.findall(r"GLIBC_(\d+)\.(\d+)", told), key=lambda it: [*map(int, it)]))
+    versions: list[str] = re.findall(r"GLIBC_([\d.]+)", told)
+    return max(versions, key=lambda it: [*map(int, it.split("."))])
 
 
 def parts(made: Made, script: str) -> None:

@@ -1,4 +1,4 @@
-// What a text may come from, readers in turns, and instances that are freed or of two modules.
+// What a text may come from, readers in turns, instances that are freed or of two modules, and suite/calls.json.
 import assert from 'node:assert/strict';
 import { createReadStream, readFileSync } from 'node:fs';
 import { Refused, load, made, verdict } from '../../web/dnorm.mjs';
@@ -84,6 +84,88 @@ for (const [it, names] of [[roads, ['tail', 'head', 'length']], [other, ['tail',
     assert.deepEqual([...it.arcs(form)], [...columns.tail.keys()].map((i) => names.map((name) => columns[name][i])));
   }
 }
+
+// The calls of suite/calls.json.
+const SPREADS = Boolean(library.calls.dnorm_spread);
+const WHAT = ['same', 'kind', 'nodes', 'supply', 'source', 'sink', 'pair', 'length', 'item', 'point'];
+const inLines = (...them) => them.map((it) => `${[...it].join(' ')}\n`).join('');
+const padded = (them, width) => inLines(...[...them].map((it) => [...it, ...Array(width - it.length).fill(0)]));
+const turned = ({ ...columns }) => [...columns.tail.keys()].map((i) => Object.values(columns).map((it) => it[i]));
+const is = (found) => found ?? assert.fail(new Refused(40));
+const answers = {
+  facts: ({ kind, nodes, lines, pairs, items }) => inLines([kind, nodes, lines, pairs, items]),
+  compare: (it) => inLines(it ? [WHAT.indexOf(it.what), it.at, it.to, it.index, it.amount, it.left ?? 'none',
+    it.right ?? 'none'] : [0, 0, 0, 0, 0, 'none', 'none']),
+  star: ({ first, reverse }) => inLines(first, ...Object.values(reverse())),
+};
+const calls = {
+  facts: (it) => answers.facts(is(it.facts().kind === 'none' ? null : it.facts())),
+  arc_count: (it, form) => inLines([is(it.arcCount(form))]),
+  next: (it, form) => {
+    const found = padded(it.arcs(form), 5);
+    assert.equal(padded(turned(it.columns(form)), 5), found);
+    return found;
+  },
+  items: (it) => padded(it.items(), 3),
+  canon,
+  compare: (it, form, right) => answers.compare(it.compare(right)),
+  fits: (it, form, right) => inLines([it.misfit(right)?.number ?? 0, it.misfit(right)?.node ?? 0]),
+  lines: (it) => padded(turned(it.lines), 6),
+  spread: (it, form, right, flow) => inLines(it.spread(form, flow, right.lines ?? [])),
+  star: (it, form) => answers.star(it.star(form)),
+};
+const table = JSON.parse(readFileSync(new URL('../../suite/calls.json', import.meta.url)));
+for (const it of table.cases) {
+  const form = Number(it.form ?? 1);
+  const held = async (bytes) => {
+    const made = await library.read([Buffer.from(bytes ?? 'p sp 1 0\n')], { lines: true });
+    if (bytes === null) made.free();
+    return made;
+  };
+  const flow = (it.flow ?? '').split(' ').filter(Boolean).map(BigInt);
+  const call = async () => {
+    try {
+      const left = await held(it.text);
+      const right = it.other === undefined ? left : await held(it.other);
+      return { answer: calls[it.call](left, form, right, flow) };
+    } catch (error) {
+      if (error instanceof Refused) return { code: `${error.number}` };
+      throw error;
+    }
+  };
+  const { answer, code } = it;
+  if (it.call === 'spread' && !SPREADS) await assert.rejects(call, /TypeError: the module has no dnorm_spread/);
+  else if (form !== 1 && form !== 2) await assert.rejects(call, RangeError, it.name);
+  else assert.deepEqual(await call(), answer === undefined ? { code } : { answer }, it.name);
+}
+
+// Flows of several sorts on many lines, which come in several copies; and what is none.
+const rooms = Array.from({ length: 70000 }, (_, i) => BigInt(i % 3));
+const paths = ['p max 2 70000\nn 1 s\nn 2 t\n', ...rooms.map((it) => `a 1 2 ${it}\n`)].join('');
+const wide = await library.read([Buffer.from(paths.slice(0, 99)), Buffer.from(paths.slice(99))], { lines: true });
+assert.deepEqual(wide.lines.capacity, BigInt64Array.from(rooms));
+assert.deepEqual(wide.lines.line.at(-1), 70003n);
+assert.equal(roads.lines, null);
+if (SPREADS) {
+  const most = wide.columns().capacity;
+  for (const it of [most, [...most], Array.from(most, Number)]) {
+    assert.deepEqual(wide.spread(1, it), wide.lines.capacity);
+  }
+  assert.deepEqual(wide.spread(2, [1], { ...wide.lines }).slice(0, 3), BigInt64Array.of(0n, 1n, 0n));
+  assert.throws(() => wide.spread(1, [most[0] + 1n]), { number: 42, refusal: 'NotAFlow' });
+  for (const it of [{}, { ...wide.lines, capacity: [1n] }]) {
+    assert.throws(() => wide.spread(1, most, it), { number: 42 });
+  }
+  for (const it of [[1.5], [2n ** 63n], [-(2n ** 64n)]]) assert.throws(() => wide.spread(1, it), RangeError);
+  for (const it of [null, [null], 5]) assert.throws(() => wide.spread(1, it), TypeError);
+  assert.throws(() => roads.spread(1, [0n]), /TypeError: the arc lines are missing/);
+  const without = new library.constructor({ ...library.calls, dnorm_spread: undefined });
+  const there = await without.read([Buffer.from(paths)], { lines: true });
+  assert.deepEqual(there.lines, wide.lines);
+  assert.throws(() => there.spread(1, most), /TypeError: the module has no dnorm_spread/);
+}
+const far = await library.read([Buffer.from(`p sp ${2n ** 63n - 1n} 0\n`)]);
+assert.throws(() => far.star(), RangeError);
 
 // The forms in which a text is canonical.
 const asked = [];

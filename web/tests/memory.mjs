@@ -70,6 +70,17 @@ async function answers(library) {
     const other = bytes(text.replace(/1\n$/, '2\n'));
     await ask(`${name} compare`, async () => plain(await library.compare(bytes(text), other)));
     one.free();
+    await ask(`${name} spread`, async () => {
+      const it = await library.read(bytes(text), { lines: true });
+      try {
+        if (!library.calls.dnorm_spread || !it.arcCount()) return it.lines.tail.length;
+        const { tail, capacity } = it.columns();
+        const units = it.spread(1, capacity ?? new BigInt64Array(tail.length));
+        return plain(units.reduce((sum, unit, i) => sum + unit * BigInt(i), 0n));
+      } finally {
+        it.free();
+      }
+    });
   }
   await ask('a small text', async () => plain(await library.check(bytes('p sp 1 0\n'))));
   return said;

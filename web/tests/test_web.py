@@ -193,9 +193,9 @@ def packed(folder: str) -> str:
         assert run(["cp", "-R", f"{ROOT}/{it}", folder]) == said()
     os.makedirs(f"{folder}/python/src/dnorm")
     shutil.copy(f"{ROOT}/python/src/dnorm/hints.json", f"{folder}/python/src/dnorm")
-    assert pack(folder) == (b"dnorm-3.0.0.tgz\n", 0)
+    assert pack(folder) == (b"dnorm-3.1.0.tgz\n", 0)
     os.makedirs(f"{folder}/app/node_modules")
-    assert run(["tar", "-C", f"{folder}/app/node_modules", "-xf", f"{folder}/dnorm-3.0.0.tgz"]) == said()
+    assert run(["tar", "-C", f"{folder}/app/node_modules", "-xf", f"{folder}/dnorm-3.1.0.tgz"]) == said()
     os.rename(f"{folder}/app/node_modules/package", f"{folder}/app/node_modules/dnorm")
     return f"{folder}/app"
 
@@ -224,5 +224,5 @@ def test_npm_pack(folder: str) -> None:
     write(f"{app}/app.mjs", f"import {{ load }} from 'dnorm';\n{APP}")
     assert run(["node", f"{app}/app.mjs", "canon"]) == said("function 3\n")
     os.remove(f"{folder}/released/dnorm.wasm.gz")
-    os.remove(f"{folder}/dnorm-3.0.0.tgz")
-    assert pack(folder)[1] and not os.path.exists(f"{folder}/dnorm-3.0.0.tgz")
+    os.remove(f"{folder}/dnorm-3.1.0.tgz")
+    assert pack(folder)[1] and not os.path.exists(f"{folder}/dnorm-3.1.0.tgz")

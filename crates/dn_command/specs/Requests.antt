@@ -47,7 +47,7 @@ subcommand_asked = option_and_then (λ p. command_asked p.0 p.1)
 
 -- the text printed for the version: the program's name and its version
 abbrev pub version_line : List ℕ
-version_line = codes "dnorm 3.0.0\n"
+version_line = codes "dnorm 3.1.0\n"
 
 -- one of these faults is a mistake in the words, and neither a call for help nor one for the version
 abbrev pub HasMistake : Kinds → Type 0

@@ -1,7 +1,7 @@
 // The help texts. Their lines have at most 80 columns.
 
 // The version of the program.
-pub(crate) const VERSION: &str = "3.0.0";
+pub(crate) const VERSION: &str = "3.1.0";
 
 // What the program is.
 pub(crate) const PROGRAM: &str = "\

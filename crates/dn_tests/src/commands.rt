@@ -11,7 +11,7 @@ use std::alloc::{AllocError, Global};
 use std::fmt::Display;
 use std::test::Fail;
 
-const VERSION_TEXT: &str = "dnorm 3.0.0\n";
+const VERSION_TEXT: &str = "dnorm 3.1.0\n";
 
 // Returns the words of a line after the program's name. `|` separates the words of the line.
 pub(crate) fn owned(alloc: Global, line: &str) -> Result<Vec<String>, AllocError> {

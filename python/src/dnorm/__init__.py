@@ -24,8 +24,9 @@ from .columns import Column
 from .errors import DnormError, Endless, Memory, NoLibrary, Read, Refused, TimedOut, Write
 from .files import File, Readable, Target, Writable
 from .folders import Collection, check_folder
-from .instances import ArcLines, Co, Graph, Instance, Max, Min, P2p, Sp, Ss, Star, from_arrays
+from .instances import Co, Graph, Instance, Max, Min, P2p, Sp, Ss, Star, from_arrays
 from .library import find_library
+from .lines import ArcLines
 from .manifests import Changes, Manifest, manifest_changes, read_manifest
 from .networks import from_networkx, from_scipy
 from .pairs import Differences, PairDifference, differences
@@ -33,7 +34,7 @@ from .records import Contents, Range, Record
 from .refusals import REFUSALS
 
 # The version of the program that this package belongs to, as Python packages spell it.
-__version__ = "3.0.0"
+__version__ = "3.1.0"
 
 __all__ = [
     "ArcLines", "Changes", "Checked", "Co", "Collection", "Column", "Contents", "Difference", "Differences",

@@ -10,9 +10,10 @@ from typing import Literal, Optional, Union, overload
 from .answers import AnyDifference, Checked, Form, Same
 from .errors import Refused
 from .files import File, Target, Text, enough_memory, name_of, sink_of
-from .instances import AnyInstance, ArcLines, Instance
-from .library import Held, LinesRead, held
+from .instances import AnyInstance, Instance
+from .library import Held, held
 from .limits import Limit, Seconds, at_once
+from .lines import ArcLines, read_lines
 from .names import KINDS, parts_of
 
 
@@ -32,11 +33,11 @@ def read(
     """Returns the instance that a text poses: an `Sp`, `Max`, `Min`, `Ss`, `P2p` or `Co`. `form` is 1 or 2, and matters
     only for `Min`. With `lines`, returns the instance and the arc lines of the text, which is read once."""
     form, limit = checked_form(form), Limit(timeout, name_of(file))
-    with enough_memory(limit.name), ExitStack() as stack:
-        reader = stack.enter_context(LinesRead()) if lines else None
-        found = stack.enter_context(held(Text(file, limit), reader.take if reader else None)).instance(form)
-        arc_lines = ArcLines(found.kind, *reader.end()) if reader else None
-    return (found, arc_lines) if arc_lines is not None else found
+    with enough_memory(limit.name):
+        if lines:
+            return read_lines(Text(file, limit), form)
+        with held(Text(file, limit)) as found:
+            return found.instance(form)
 
 
 def check(file: File, companion: Optional[File] = None, *, timeout: Seconds = None) -> Checked:

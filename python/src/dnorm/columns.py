@@ -37,8 +37,16 @@ def column(numbers: "array[int]") -> Any:
     return memoryview(numbers).toreadonly() if np is None else read_only(np.asarray(numbers).view(np.int64))
 
 
+def columns_of(rows: "array[int]", width: int) -> list[Any]:
+    """Returns the columns of rows of so many numbers, as views of them."""
+    np = numpy_here()
+    if np is None:
+        return [memoryview(rows).toreadonly()[at::width] for at in range(width)]
+    return [*read_only(np.asarray(rows).view(np.int64).reshape(-1, width)).T]
+
+
 def zeros(count: int) -> "array[int]":
-    return array("q", bytes(8 * count))
+    return array("q", [0]) * count
 
 
 def read_only(numbers: Any) -> Any:
@@ -98,3 +106,25 @@ def least_and_greatest(numbers: Any) -> tuple[int, int]:
     if hasattr(numbers, "max"):
         return int(numbers.min()), int(numbers.max())
     return min(numbers), max(numbers)
+
+
+def rises(numbers: Any) -> bool:
+    """Whether no number is above the next one."""
+    if hasattr(numbers, "max"):
+        return bool((numbers[:-1] <= numbers[1:]).all())
+    return all(map(operator.le, numbers, numbers[1:]))
+
+
+def taken(name: str, given: Any) -> Any:
+    """Returns a column of these numbers for a call that only reads it, of an array without a copy where that is one."""
+    np = numpy_here()
+    if is_array(np, given) and given.dtype == np.int64:
+        return np.require(given, np.int64, "CA")
+    return column_of(name, given)
+
+
+def address(numbers: Any) -> int:
+    """Returns where the numbers of an array, or of a whole column, are: never at 0, also where there are none."""
+    if isinstance(numbers, memoryview):
+        numbers = numbers.obj
+    return int(numbers.buffer_info()[0] if isinstance(numbers, array) else numbers.ctypes.data) or numbers.itemsize

@@ -1,18 +1,18 @@
-"""Instances as columns of numbers; and the arc lines of a text, on which a flow on canonical arcs is put back."""
+"""Instances as columns of numbers."""
 
 from __future__ import annotations
 
 import importlib
 import operator
 from array import array
-from collections import Counter
-from collections.abc import Callable, Iterator, Mapping, Sequence
+from collections.abc import Callable, Iterator, Mapping
 from dataclasses import dataclass, fields
-from itertools import accumulate, groupby, islice
+from itertools import accumulate, islice
 from typing import TYPE_CHECKING, Any, ClassVar, Generic, Literal, NamedTuple, NoReturn, TypeVar, Union, overload
 
 from .answers import table
-from .columns import LEAST, MOST, Column, Own, column, column_of, frozen, least_and_greatest, numbers_of, zeros
+from .columns import LEAST, MOST, Column, Own, column, column_of, frozen, least_and_greatest, numpy_here, read_only
+from .columns import rises, zeros
 
 if TYPE_CHECKING:
     from networkx import DiGraph, MultiDiGraph
@@ -166,12 +166,18 @@ class Star(NamedTuple):
     into: Column
 
 
-def ends_of(nodes: int, ends: list[int]) -> Any:
-    """Returns how many of these nodes are at most 0, 1, 2 and so on to the last node."""
-    counts = zeros(nodes + 1)
-    for it in ends:
-        counts[it] += 1
-    return column(array("q", accumulate(counts)))
+def star_of(nodes: int, tails: Any, heads: Any) -> Star:
+    """Returns the stars of arcs with ends among these nodes, of which the tails rise."""
+    np = numpy_here()
+    if np is not None:
+        first, into_first = (read_only(np.bincount(it, minlength=nodes + 1).cumsum()) for it in (tails, heads))
+        return Star(first, into_first, read_only(np.argsort(heads, kind="stable")))
+    counts = zeros(nodes + 1), zeros(nodes + 1)
+    for count, ends in zip(counts, (tails, heads)):
+        for it in ends:
+            count[it] += 1
+    first, into_first = (column(array("q", accumulate(it))) for it in counts)
+    return Star(first, into_first, column(array("q", sorted(range(len(heads)), key=heads.tolist().__getitem__))))
 
 
 @dataclass(frozen=True, eq=False, repr=False)
@@ -198,11 +204,17 @@ class Graph(Instance):
         """Returns where the arcs of each node are, those from it and those into it, as a forward and a reverse star.
         Raises ValueError if tails do not rise, as those of an instance that was read do, or an end is no node."""
         self.check_ends()
-        tails, heads = self.tails.tolist(), self.heads.tolist()
-        if any(map(operator.gt, tails, tails[1:])):
+        if not rises(self.tails):
             raise ValueError("tails do not rise: dnorm.read of the text that dnorm.write makes sorts the arcs")
-        into = array("q", sorted(range(len(heads)), key=heads.__getitem__))
-        return Star(ends_of(self.nodes, tails), ends_of(self.nodes, heads), column(into))
+        return star_of(self.nodes, self.tails, self.heads)
+
+    def flow_of(self, found: Mapping[int, Mapping[int, Any]]) -> Column:
+        """Returns the flow of each arc that a solver of networkx found for `to_networkx`: {tail: {head: units}}, or for
+        `Min` {tail: {head: {key: units}}}, to which the lower bounds are added. `ArcLines.spread` takes it. An arc that
+        is not named has no units. Raises TypeError and OverflowError as `from_arrays` does."""
+        ends = zip(self.tails.tolist(), self.heads.tolist())
+        flow: Column = column_of("flow", [found.get(tail, {}).get(head, 0) for tail, head in ends])
+        return flow
 
     def check_parallel(self, count: int) -> None:
         """Raises ValueError if what was made of the arcs has fewer of them, or an arc has an end that is no node."""
@@ -303,20 +315,26 @@ class Min(Arcs[tuple[int, int, int, int, int]], Graph):
     def to_networkx(self) -> MultiNetwork:
         """Returns a `networkx.MultiDiGraph` for solvers that know no lower bounds, as `networkx.network_simplex`.
 
-        The lower bounds are sent beforehand. An edge has the attributes `weight`, its COST; `capacity`, its CAP minus
-        its LOW; and `low`, its LOW. A node has the attribute `demand`, the flow that it then lacks. `graph["cost"]` is
-        the cost of the lower bounds. The latter and `low` add to the cost and the flow that a solver finds."""
+        The lower bounds are sent beforehand. An edge has as its key the number of its arc, i for `tails[i]`, and the
+        attributes `weight`, its COST; `capacity`, its CAP minus its LOW; and `low`, its LOW. A node has the attribute
+        `demand`, the flow that it then lacks. `graph["cost"]` is the cost of the lower bounds, which adds to the cost
+        that a solver finds. `flow_of` adds `low` to the flow that it finds."""
         self.check_ends()
         fixed = sum(low * cost for _, _, low, _, cost in self.arcs())
         graph: MultiNetwork = importlib.import_module("networkx").MultiDiGraph(cost=fixed)
         demands = {**dict.fromkeys(range(1, self.nodes + 1), 0), **{it: -flow for it, flow in self.supplies.items()}}
         graph.add_nodes_from(demands)
-        for tail, head, low, cap, cost in self.arcs():
+        for key, (tail, head, low, cap, cost) in enumerate(self.arcs()):
             demands[tail] += low
             demands[head] -= low
-            graph.add_edge(tail, head, weight=cost, capacity=cap - low, low=low)
+            graph.add_edge(tail, head, key=key, weight=cost, capacity=cap - low, low=low)
         importlib.import_module("networkx").set_node_attributes(graph, demands, "demand")
         return graph
+
+    def flow_of(self, found: Mapping[int, Mapping[int, Any]]) -> Column:
+        arcs = enumerate(zip(self.tails.tolist(), self.heads.tolist(), self.lows.tolist()))
+        flow: Column = column_of("flow", [low + found.get(u, {}).get(v, {}).get(key, 0) for key, (u, v, low) in arcs])
+        return flow
 
     def to_scipy(self) -> tuple[csr_matrix, Column]:
         """Returns the incidence matrix of the arcs, a `scipy.sparse.csr_matrix`, and the supplies, a numpy array. Row
@@ -452,65 +470,3 @@ def of_nodes(supplies: Mapping[int, int], nodes: int) -> Mapping[int, int]:
         if not 1 <= node <= nodes:
             raise ValueError(f"supplies has node {node}, which is none of 1 to {nodes}: nodes count from 1")
     return supplies
-
-
-@dataclass(frozen=True, eq=False, repr=False)
-class ArcLines:
-    """The arc lines of a text of this kind, in its order. Line i has the number `numbers[i]`, counted from 1, in the
-    file. It goes from `tails[i]` to `heads[i]`, and its numbers are those of an arc: the length (`sp`) or the capacity
-    (`max`) in `a`; LOW, CAP and COST (`min`) in `a`, `b` and `c`. The numbers that the kind lacks are 0."""
-
-    kind: str
-    numbers: Column
-    tails: Column
-    heads: Column
-    a: Column
-    b: Column
-    c: Column
-
-    def __len__(self) -> int:
-        return len(self.numbers)
-
-    def __repr__(self) -> str:
-        return f"<dnorm.ArcLines: {len(self)} lines>"
-
-    def _parts(self) -> Iterator[tuple[tuple[int, int], int, int, int, int]]:
-        """Yields the pair of each line, its cost, its place, its lower bound, and the units above that."""
-        rows = zip(*(it.tolist() for it in (self.tails, self.heads, self.a, self.b, self.c)))
-        for at, (tail, head, a, b, c) in enumerate(rows):
-            # A line of the shortest path can take any number.
-            low, room, cost = {"min": (a, b - a, c), "max": (0, a, 0)}.get(self.kind, (0, MOST, a))
-            yield (tail, head), cost, at, low, room
-
-    def spread(self, graph: Graph, flow: Union[Sequence[int], Column]) -> Column:
-        """Puts a flow on the arcs of `graph`, the instance that `read` returned with these lines, back on the lines:
-        `flow[i]` is the flow of arc i. Returns the units of each line. The lines of a pair share the flow of its arcs:
-        in `min` each has its LOW, and the rest goes to the cheapest, so that the cost stays the same; in `max` the
-        first ones are filled; in `sp` the first of the shortest has all. Raises ValueError for units out of bounds."""
-        given = numbers_of(flow, "flow[{}]".format)
-        if len(given) != len(graph):
-            raise ValueError(f"the graph has {len(graph)} arcs, and the flow {len(given)} numbers")
-        wanted = Counter[tuple[int, int]]()
-        for tail, head, units in zip(graph.tails.tolist(), graph.heads.tolist(), given):
-            if units < 0:
-                raise ValueError(f"an arc from {tail} to {head} has {units} units")
-            wanted[tail, head] += units
-        found = zeros(len(self))
-        for pair, lines in groupby(sorted(self._parts()), key=lambda it: it[0]):
-            group = list(lines)
-            left = wanted.pop(pair, 0) - sum(low for _, _, _, low, _ in group)
-            for _, _, at, low, room in group:
-                found[at] = low + max(0, min(left, room))
-                left -= found[at] - low
-            if left:
-                raise ValueError(f"the units from {pair[0]} to {pair[1]} are not between what its lines allow")
-        if wanted:
-            raise ValueError(f"the text has no arc line from {min(wanted)[0]} to {min(wanted)[1]}")
-        of_lines: Column = column(found)
-        return of_lines
-
-    def flow_lines(self, units: Union[Sequence[int], Column]) -> Iterator[bytes]:
-        """Yields the line `f TAIL HEAD UNITS` of each arc line, in the order of the text."""
-        if len(units) != len(self):
-            raise ValueError(f"there are {len(self)} arc lines, and {len(units)} numbers of units")
-        return map(b"f %d %d %d\n".__mod__, zip(self.tails.tolist(), self.heads.tolist(), map(int, units)))

@@ -7,6 +7,7 @@ import hashlib
 import operator
 import os
 import platform
+import weakref
 from array import array
 from collections.abc import Callable, Iterator
 from importlib.machinery import EXTENSION_SUFFIXES
@@ -14,11 +15,11 @@ from itertools import starmap
 from typing import Any, Optional, Union, cast
 
 from .answers import AnyDifference, Difference, Same
-from .columns import Own, column, zeros
+from .columns import Column, Own, address, column, zeros
 from .errors import DnormError, Endless, Memory, NoLibrary, Refused
 from .files import Text, enough_memory
 from .instances import CLASSES, AnyInstance, column_names
-from .limits import Lease
+from .limits import Lease, Limit
 from .program import page, place
 from .refusals import REFUSALS
 
@@ -40,6 +41,8 @@ OF_PAIR = {"sp": "length", "max": "capacity", "min": "cost"}
 FINE, MEMORY, NOT_IN_GRAPH, AT_LINE = 0, 30, 35, 1
 # How many arcs, items or arc lines, and how many bytes, are copied between two looks whether the time is over.
 ROOM, BYTES = 1 << 14, 1 << 16
+# How many numbers a dnorm_row and a dnorm_share have.
+WIDTH, SHARE = 6, 3
 # A text of so many bytes has no end.
 ENDLESS = 1 << 40
 
@@ -79,6 +82,8 @@ FUNCTIONS: dict[str, tuple[Any, ...]] = {
     "dnorm_fits": (Fit, HANDLE, HANDLE),
     "dnorm_free": (None, HANDLE),
 }
+# One that the library of 3.0.0 lacks.
+SPREAD: tuple[Any, ...] = (Status, HANDLE, U8, *[ADDRESS, SIZE] * 4)
 
 
 def find_library() -> str:
@@ -102,6 +107,8 @@ def loaded(named: str) -> Any:
             for name, (result, *arguments) in FUNCTIONS.items():
                 call = getattr(found, name)
                 call.restype, call.argtypes = result, arguments
+            if hasattr(found, "dnorm_spread"):
+                found.dnorm_spread.restype, found.dnorm_spread.argtypes = SPREAD[0], SPREAD[1:]
             return found
         # It is another file, or of an interface that lacks a function.
         except (OSError, AttributeError) as reason:
@@ -215,38 +222,52 @@ class Held:
         if found.code != FINE:
             raise error_of(text, found.code, None, found.node if found.code == NOT_IN_GRAPH else None)
 
+    def kept(self) -> "Held":
+        """Returns this instance without its text, which lasts as long as what is returned."""
+        found = Held(self._library, self._handle, Text(b"", Limit(None, "-")), self._lease)
+        self._lease.take()
+        weakref.finalize(found, self._lease.end)
+        return found
+
+    def spread(self, form: int, flow: Any, rows: "array[int]") -> Column:
+        """Puts a flow on the arcs in a form back on the arc lines, which are given as rows. Returns the units of each.
+        Raises NoLibrary if the library has no such call, and ValueError if this is no flow."""
+        if not hasattr(self._library, "dnorm_spread"):
+            raise NoLibrary(self._library._name, "it has no dnorm_spread, which versions after 3.0.0 have")
+        units, shares = zeros(len(rows) // WIDTH), zeros(SHARE * self.pairs)
+        counted = [(flow, len(flow)), (rows, len(units)), (shares, self.pairs), (units, len(units))]
+        words = [word for it, count in counted for word in (address(it), count)]
+        if self._library.dnorm_spread(self._handle, form, *words).code != FINE:
+            raise ValueError("no flow: an arc has less than 0 units, or a pair other units than its lines can have")
+        found: Column = column(units)
+        return found
+
 
 def number_of(value: Any) -> Any:
     return (value.high << 64) + value.low if value.known else None
 
 
 class LinesRead(contextlib.ExitStack):
-    """Reads the arc lines of a text by the library, which has taken its pieces before."""
+    """Reads the arc lines of a text by the library, which has taken its pieces before, as rows of WIDTH numbers."""
 
     def __init__(self) -> None:
         super().__init__()
         self._library, self._handle = library(), Handle()
-        self._columns, self._room = [array("q") for _ in range(6)], zeros(6 * ROOM)
+        self.rows, self._room = array("q"), zeros(WIDTH * ROOM)
         if self._library.dnorm_lines_begin(ctypes.byref(self._handle)).code != FINE:
             raise MemoryError
         self.callback(self._library.dnorm_free, ctypes.byref(self._handle))
 
     def take(self, piece: bytes) -> None:
-        address, done = ctypes.cast(ctypes.c_char_p(piece), ADDRESS).value or 0, 0
-        handle, to, some = ctypes.byref(self._handle), self._room.buffer_info()[0], memoryview(self._room)
+        start, done = ctypes.cast(ctypes.c_char_p(piece), ADDRESS).value or 0, 0
+        handle, to, some = ctypes.byref(self._handle), address(self._room), memoryview(self._room).cast("B")
         while done < len(piece):
-            given = self._library.dnorm_lines(handle, address + done, len(piece) - done, to, ROOM)
+            given = self._library.dnorm_lines(handle, start + done, len(piece) - done, to, ROOM)
             # A line that is refused by itself was refused before.
             if given.code != FINE:
                 break
             done += given.used
-            for number, it in enumerate(self._columns):
-                it.frombytes(some[number : 6 * given.count : 6].tobytes())
-
-    def end(self) -> list[Any]:
-        """Ends the text, and returns the columns of its arc lines."""
-        self.take(b"\n")
-        return [column(it) for it in self._columns]
+            self.rows.frombytes(some[: 8 * WIDTH * given.count])
 
 
 @contextlib.contextmanager

@@ -46,6 +46,7 @@ pub const DNORM_TOO_LONG: u8 = 21;
 pub const DNORM_MEMORY: u8 = 30;
 pub const DNORM_COUNT_TOO_LARGE: u8 = 34;
 pub const DNORM_WRONG_CALL: u8 = 40;
+pub const DNORM_NOT_A_FLOW: u8 = 42;
 
 pub const DNORM_NO_PLACE: u8 = 0;
 pub const DNORM_AT_LINE: u8 = 1;
@@ -175,6 +176,14 @@ pub struct dnorm_lines_given {
     pub line: u64,
 }
 
+#[repr(C)]
+#[derive(Clone, Copy, Debug, Default, PartialEq, Eq)]
+pub struct dnorm_share {
+    pub cost: i64,
+    pub rest: i64,
+    pub left: i64,
+}
+
 extern "C" {
     pub fn dnorm_begin(reader: *mut dnorm) -> dnorm_status;
     pub fn dnorm_feed(reader: *mut dnorm, bytes: *const u8, length: usize) -> dnorm_status;
@@ -206,5 +215,17 @@ extern "C" {
         out: *mut dnorm_row,
         room: usize,
     ) -> dnorm_lines_given;
+    pub fn dnorm_spread(
+        graph: *const dnorm,
+        form: u8,
+        flow: *const i64,
+        flow_count: usize,
+        lines: *const dnorm_row,
+        line_count: usize,
+        shares: *mut dnorm_share,
+        share_count: usize,
+        units: *mut i64,
+        unit_count: usize,
+    ) -> dnorm_status;
     pub fn dnorm_free(any: *mut dnorm);
 }

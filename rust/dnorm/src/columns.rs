@@ -5,8 +5,8 @@ use crate::{Form, Instance, Kind};
 use std::num::TryFromIntError;
 use std::ops::Range;
 
-/// Canonical arcs by columns, as [`CanonArc`](crate::CanonArc) has their numbers. Columns that the kind lacks are empty:
-/// `b` and `c` of `sp` and `max`, and all columns of a companion.
+/// Canonical arcs by columns, as [`CanonArc`](crate::CanonArc) has their numbers. Columns that the kind lacks are
+/// empty: `b` and `c` of `sp` and `max`, and all columns of a companion.
 #[derive(Clone, Debug, Default, PartialEq, Eq)]
 pub struct Columns<Number> {
     /// The tails.
@@ -71,14 +71,14 @@ pub trait Index: Copy + Default + TryFrom<usize> + TryInto<usize> {}
 impl Index for usize {}
 impl Index for i32 {}
 
-// An index that was made from one.
+// An index or a node as a place in a list.
 fn at<Any: TryInto<usize>>(index: Any) -> usize {
     index.try_into().unwrap_or(usize::MAX)
 }
 
-// Whether all indexes up to this one fit.
-fn fits<I: Index>(greatest: usize) -> Option<I> {
-    I::try_from(greatest).ok()
+// An index that is no greater than one that fits.
+fn index<I: Index>(place: usize) -> I {
+    I::try_from(place).unwrap_or_default()
 }
 
 impl<I: Index, Number: Copy + TryFrom<i64> + TryInto<usize>> StarOf<I, Number> {
@@ -87,20 +87,17 @@ impl<I: Index, Number: Copy + TryFrom<i64> + TryInto<usize>> StarOf<I, Number> {
         let room = usize::try_from(nodes).ok().and_then(|it| it.checked_add(1));
         let room = room.ok_or_else(refusal::memory)?;
         let arcs = columns.tails.len();
-        if fits::<I>(room - 1).is_none() || fits::<I>(arcs).is_none() {
+        if I::try_from(room - 1).is_err() || I::try_from(arcs).is_err() {
             return Ok(None);
         }
         let mut first = Vec::new();
         first
             .try_reserve_exact(room)
             .map_err(|_| refusal::memory())?;
-        let mut seen = 0;
-        for node in 0..room {
-            while columns.tails.get(seen).map_or(false, |it| at(*it) <= node) {
-                seen += 1;
-            }
-            first.extend(fits::<I>(seen));
+        for (before, tail) in columns.tails.iter().enumerate() {
+            first.resize(first.len().max(at(*tail)), index(before));
         }
+        first.resize(room, index(arcs));
         Ok(Some(StarOf {
             first,
             columns,
@@ -111,21 +108,21 @@ impl<I: Index, Number: Copy + TryFrom<i64> + TryInto<usize>> StarOf<I, Number> {
 
     /// Finds the arcs into each node.
     pub fn reverse(&mut self) {
-        let mut first = vec![0; self.first.len()];
+        // How many arcs have a head before each node; once all arcs have their places, those with this head as well.
+        let mut first = vec![0; self.first.len() + 1];
         for head in &self.columns.heads {
-            first[at(*head)] += 1;
+            first[at(*head) + 1] += 1;
         }
         for node in 1..first.len() {
             first[node] += first[node - 1];
         }
-        // Each list is filled from its end, so that its beginning is known at last.
         self.into = vec![I::default(); self.columns.heads.len()];
-        for (index, head) in self.columns.heads.iter().enumerate().rev() {
-            first[at(*head)] -= 1;
-            self.into[first[at(*head)]] = fits(index).unwrap_or_default();
+        for (arc, head) in self.columns.heads.iter().enumerate() {
+            self.into[first[at(*head)]] = index(arc);
+            first[at(*head)] += 1;
         }
-        first.push(self.into.len());
-        self.into_first = first[1..].iter().filter_map(|it| fits(*it)).collect();
+        first.pop();
+        self.into_first = first.into_iter().map(index).collect();
     }
 
     /// Returns the indexes of the arcs of a node, which is counted from 1.

@@ -5,8 +5,8 @@ use dnorm_sys as sys;
 /// Owns what a `dnorm` owns.
 pub(crate) struct Handle(sys::dnorm);
 
-// The rules of `dnorm.h` let a `dnorm` go to another thread, and let several threads call the functions that take it by a
-// pointer to const.
+// The rules of `dnorm.h` let a `dnorm` go to another thread, and let several threads call the functions that take it by
+// a pointer to const.
 unsafe impl Send for Handle {}
 unsafe impl Sync for Handle {}
 

@@ -207,10 +207,10 @@ impl Instance {
     ///
     /// # Errors
     ///
-    /// The numbers are no flow on the lines, or the lines were not kept.
+    /// The numbers are no flow on the lines, the lines were not kept, or the instance is a companion.
     pub fn spread(&self, form: Form, flow: &[i64]) -> Result<Vec<i64>, NotAFlow> {
         let kept = self.arc_lines().ok_or(NotAFlow)?;
-        lines::spread(self.kind, self.arcs(form), flow, kept)
+        lines::spread(self, form, flow, kept)
     }
 
     /// Returns the canonical text.

@@ -2,7 +2,7 @@
 
 use crate::handle::Handle;
 use crate::refusal::{self, Refusal};
-use crate::{ArcLine, CanonArc, Kind};
+use crate::{ArcLine, Form, Instance};
 use dnorm_sys as sys;
 use std::error::Error;
 use std::fmt::{Display, Formatter, Result as Printed};
@@ -51,7 +51,7 @@ impl Lines {
 }
 
 /// Numbers are no flow on the arc lines: the units of a pair are not between the sums of its lower bounds and of its
-/// capacities, there are more or fewer numbers than arcs, or the lines were not kept.
+/// capacities, there are more or fewer numbers than arcs, the lines were not kept, or a companion has none.
 #[derive(Clone, Copy, Debug, PartialEq, Eq)]
 pub struct NotAFlow;
 
@@ -63,57 +63,31 @@ impl Display for NotAFlow {
 
 impl Error for NotAFlow {}
 
-// The lower bound of a line, the units above it, and the cost of each.
-fn parts(kind: Kind, line: &ArcLine) -> (i64, i64, i64) {
-    match kind {
-        Kind::Min => (line.a, line.b - line.a, line.c),
-        Kind::Sp => (0, i64::MAX, line.a),
-        _ => (0, line.a, 0),
-    }
-}
-
-/// Puts a flow on canonical arcs back on the arc lines of their text: see [`Instance::spread`](crate::Instance::spread).
+/// Puts a flow on canonical arcs back on the arc lines of their text: see [`Instance::spread`].
 pub(crate) fn spread(
-    kind: Kind,
-    arcs: impl Iterator<Item = CanonArc>,
+    graph: &Instance,
+    form: Form,
     flow: &[i64],
     lines: &[ArcLine],
 ) -> Result<Vec<i64>, NotAFlow> {
-    let mut units: Vec<i64> = lines.iter().map(|it| parts(kind, it).0).collect();
-    // The cheapest lines of a pair come first.
-    let mut order: Vec<usize> = (0..lines.len()).collect();
-    let pair_of = |at: usize| (lines[at].tail, lines[at].head);
-    order.sort_by_key(|at| (pair_of(*at), parts(kind, &lines[*at]).2, *at));
-    let mut at = 0;
-    let mut flow = flow.iter();
-    let mut arcs = arcs.peekable();
-    while let Some(arc) = arcs.next() {
-        let pair = (arc.tail, arc.head);
-        let mut left: i128 = (*flow.next().ok_or(NotAFlow)?).into();
-        let mut is_flow = left >= 0;
-        while arcs.next_if(|it| (it.tail, it.head) == pair).is_some() {
-            let more = *flow.next().ok_or(NotAFlow)?;
-            is_flow &= more >= 0;
-            left += i128::from(more);
-        }
-        // The lines of pairs without canonical arcs have no units but their lower bounds.
-        at += order[at..].partition_point(|it| pair_of(*it) < pair);
-        let end = at + order[at..].partition_point(|it| pair_of(*it) == pair);
-        left -= order[at..end]
-            .iter()
-            .map(|it| i128::from(units[*it]))
-            .sum::<i128>();
-        is_flow &= left >= 0;
-        for it in &order[at..end] {
-            let some = left.min(parts(kind, &lines[*it]).1.into());
-            // No more than the room of the line.
-            units[*it] += some as i64;
-            left -= some;
-        }
-        if !is_flow || left != 0 {
-            return Err(NotAFlow);
-        }
-        at = end;
-    }
-    flow.next().map_or(Ok(units), |_| Err(NotAFlow))
+    let pairs = usize::try_from(graph.pairs()).map_err(|_| NotAFlow)?;
+    let mut shares = vec![sys::dnorm_share::default(); pairs];
+    let mut units = vec![0; lines.len()];
+    let status = unsafe {
+        sys::dnorm_spread(
+            graph.raw(),
+            form as u8,
+            flow.as_ptr(),
+            flow.len(),
+            lines.as_ptr(),
+            lines.len(),
+            shares.as_mut_ptr(),
+            shares.len(),
+            units.as_mut_ptr(),
+            units.len(),
+        )
+    };
+    refusal::checked(status)
+        .map(|()| units)
+        .map_err(|_| NotAFlow)
 }

@@ -19,12 +19,8 @@ pub fn write(
 ) -> io::Result<()> {
     let mut out = BufWriter::with_capacity(65536, out);
     match kind {
-        Kind::Min => writeln!(out, "p min {nodes} {}", arcs.len())?,
-        Kind::Max => writeln!(out, "p max {nodes} {}", arcs.len())?,
-        Kind::Sp => writeln!(out, "p sp {nodes} {}", arcs.len())?,
-        Kind::Ss => writeln!(out, "p aux sp ss {}", items.len())?,
-        Kind::P2p => writeln!(out, "p aux sp p2p {}", items.len())?,
-        Kind::Co => writeln!(out, "p aux sp co {}", items.len())?,
+        Kind::Min | Kind::Max | Kind::Sp => writeln!(out, "p {kind} {nodes} {}", arcs.len())?,
+        Kind::Ss | Kind::P2p | Kind::Co => writeln!(out, "p aux sp {kind} {}", items.len())?,
     }
     for Item { id, a, b } in items {
         match kind {
