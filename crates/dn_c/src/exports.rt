@@ -240,15 +240,15 @@ pub unsafe extern "C" fn dnorm_canon(handle: *const u8, form: u8, into: &mut Han
     canon_into(&*(handle as *const Shown), form, into)
 }
 
-/// Puts a flow on the canonical arcs of the graph in a form (1 or 2) back on its arc lines. `flow` has the units of each
-/// arc in the order of the canonical text, and `units` gets those of each line. `shares` is room to work in, for one
-/// share of each pair.
+/// Puts a flow on the canonical arcs of the graph in a form (1 or 2) back on its arc lines. `flow` has the units of
+/// each arc in the order of the canonical text, and `units` gets those of each line. `shares` is room to work in, for
+/// one share of each pair.
 ///
 /// # Errors
 ///
 /// The status is 42 if this is no flow on the lines, or the lines are not those of the graph; `units` and `shares` may
-/// have changed. It is that of a wrong call where the handle holds no graph, there are fewer shares than pairs, or not as
-/// many units as lines, and then nothing changes.
+/// have changed. It is that of a wrong call where the handle holds no graph, there are fewer shares than pairs, or not
+/// as many units as lines, and then nothing changes.
 #[unsafe(no_mangle)]
 pub unsafe extern "C" fn dnorm_spread(
     handle: *const u8,
@@ -261,7 +261,8 @@ pub unsafe extern "C" fn dnorm_spread(
     ghost g: { (Lft × Share) × Shown }
     requires* { sem 𝓛 (read_at g.0 handle g.1) }
     ensures* alive { sem 𝓛 (alive_at g.0) }
-    ensures spreads { SpreadsHeld (shown_work g.1) form flow.now lines.now (length shares.old) units.old units.new result }
+    ensures spreads { SpreadsHeld (shown_work g.1) form flow.now lines.now
+        (length shares.old) units.old units.new result }
 {
     spread_on(&*(handle as *const Shown), form, flow, lines, shares, units)
 }

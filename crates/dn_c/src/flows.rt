@@ -19,7 +19,8 @@ pub fn spread_on(
     shares: &mut [PairShare],
     units: &mut [i64],
 ) -> Status
-    ensures { SpreadsHeld (shown_work handle.now) form flow.now lines.now (length shares.old) units.old units.new result }
+    ensures { SpreadsHeld (shown_work handle.now) form flow.now lines.now
+        (length shares.old) units.old units.new result }
 {
     match handle.get() {
         Some(Work::Read(held, _)) => {

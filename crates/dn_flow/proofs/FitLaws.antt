@@ -273,7 +273,8 @@ module _ {B Arc : Type 0} (kind : ArcKind Arc) (arc : ArcLine → Arc) (carried 
 
     fits_part : (table : List ((ℤ × ℤ) × B)) (flow : List ℤ) → IsDistinct same_pair (keys_of table)
         → length flow ≡ length (listed_arcs lists table) → AllByRecursion (λ u. pos 0 ≤ℤ u) flow
-        → AllByRecursion (IsKnown table flow) (keys_of table) → Fits kind carried lists meant table flow (arcs_by arc lines)
+        → AllByRecursion (IsKnown table flow) (keys_of table)
+        → Fits kind carried lists meant table flow (arcs_by arc lines)
     fits_part [] [] d long some k = refl
     fits_part [] (u ∷ flow) d long some k = absurd (omega (arith, long))
     fits_part (e ∷ table) flow d long some k =

@@ -33,7 +33,8 @@ use Rattle.dn_flow.specs.declared.share.PairShare.{PairShare}
 pub sub_from : (r l : ℤ) → FitsSigned w64 l → pos 0 ≤ℤ l → l ≤ℤ r → r ≤ℤ pos (2 ^ 63 - 1)
     → to_z w64 (of_z w64 (r -ℤ to_z w64 (of_z w64 l))) ≡ r -ℤ l
 sub_from r l fits low le most =
-    rw (to_z-of_z w64 l fits) (to_z-of_z w64 (r -ℤ l) (fits_some _ (omega (arith, ints, le)) (omega (arith, ints, low, most))))
+    rw (to_z-of_z w64 l fits) (to_z-of_z w64 (r -ℤ l) (fits_some _ (omega (arith, ints, le)) (omega
+    (arith, ints, low, most))))
 
 -- a split sends at least the forced units, and at most these and the free capacity
 split_bounds : (arcs : List CostArc) (xs : List ℤ) → AreShares arcs xs
@@ -72,7 +73,11 @@ room_there w (a ∷ rest) (inl e) =
     let r = rooms_some (λ cost. int_eq cost w) rest in rw (eq_yes a.length w e) (omega (arith, ints, r))
 room_there w (a ∷ rest) (inr h) =
     let r = room_there w rest h in
-    elim (cases_Bool (int_eq a.length w)) [ inl t ↦ rw t (omega (arith, ints, r)) | inr t ↦ rw t (omega (arith, ints, r)) ]
+    elim (cases_Bool (int_eq a.length w)) [
+      | inl t ↦ rw t (omega (arith, ints, r))
+      | inr t ↦ rw t (omega
+          (arith, ints, r))
+    ]
 
 -- the shortest lines share all units
 pub lengths_share : (w units : ℤ) (arcs listed : List LengthArc) → LeastLength listed w → SameLength arcs listed
@@ -256,7 +261,8 @@ cut_at (b ∷ free) h (suc i) a e =
     let lt = at_index (λ (x : CostArc). b.cost <ℤ x.cost) free i a h.0 e in
     let r = cut_at free h.1 i a e in
     record {
-      below = let low : int_lt b.cost a.cost ≡ true = test_yes b.cost a.cost lt in rw low (ap (λ z. room b +ℤ z) r.below);
+      below = let low : int_lt b.cost a.cost ≡ true = test_yes b.cost a.cost lt in rw low (ap
+          (λ z. room b +ℤ z) r.below);
       at = rw (eq_below b.cost a.cost lt) (omega (arith, ints, r.at));
     }
 
@@ -315,7 +321,8 @@ carried_is [] = refl
 carried_is (a ∷ rest) = ap (λ l. a ∷ l) (carried_is rest)
 
 -- the lines of a `min` pair share units that can be split among them
-pub costs_share : (arcs listed : List CostArc) → AllByRecursion IsCostArc arcs → IsFormOne listed → SameCurve arcs listed
+pub costs_share : (arcs listed : List CostArc) → AllByRecursion IsCostArc arcs → IsFormOne listed
+    → SameCurve arcs listed
     → (units : ℤ) (xs : List ℤ) → IsSplit (map cost_carried arcs) units xs → (share : Option PairShare)
     → IfSome share (λ s. s.left ≡ units)
     → (forced_units listed ≤ℤ units → units ≤ℤ (forced_units listed +ℤ free_room (filter is_free listed))

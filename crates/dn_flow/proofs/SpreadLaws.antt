@@ -22,7 +22,8 @@ use Rattle.dn_flow.specs.State.Givings.{lefts, AreNone, Fills, Gives, GivesLine,
 use Rattle.dn_flow.specs.declared.share.PairShare.{PairShare}
 
 -- a flow that fills all shares has a number for each arc
-pub flow_length : {B Arc : Type 0} (lists : B → List Arc) (table : List ((ℤ × ℤ) × B)) (flow : List ℤ) (shares : List PairShare)
+pub flow_length : {B Arc : Type 0} (lists : B
+    → List Arc) (table : List ((ℤ × ℤ) × B)) (flow : List ℤ) (shares : List PairShare)
     → Fills lists table flow shares → length flow ≡ length (listed_arcs lists table)
 flow_length lists [] flow shares h = rw h refl
 flow_length lists (e ∷ table) flow [] h = absurd h
@@ -95,7 +96,8 @@ module _ (p : ℤ × ℤ) where
         let arcs = placed e.0 (lists e.1) in
         let here = placed_units e.0 (lists e.1) (take n flow) h.0 in
         let rest = filled table (drop n flow) shares h.2 in
-        let even = h.0 ∙ sym (length-map arcs (λ a. a.0) ∙ length-map {B = (ℤ × ℤ) × Arc} (lists e.1) (λ a. (e.0, a))) in
+        let even = h.0 ∙ sym (length-map arcs (λ a. a.0) ∙ length-map {B = (ℤ × ℤ) × Arc} (lists e.1) (λ a.
+        (e.0, a))) in
         let both = units_append (map (λ a. a.0) arcs) (map (λ a. a.0) (listed_arcs lists table)) (take n flow)
         (drop n flow) even in
         let all = rw (take-append-drop n flow, ← map-append (λ (a : (ℤ × ℤ) × Arc). a.0) arcs (listed_arcs lists table))
@@ -107,7 +109,8 @@ module _ (p : ℤ × ℤ) where
 
   module _ (bounds : ArcLine → CostArc) (keys : List (ℤ × ℤ)) where
     -- a line takes its units of those that its pair has left
-    line_given : (old : List PairShare) (line : ArcLine) (u : ℤ) (new : List PairShare) → GivesLine bounds keys old line u new
+    line_given : (old : List PairShare) (line : ArcLine) (u : ℤ) (new : List PairShare)
+        → GivesLine bounds keys old line u new
         → cond (same_pair p (pair_of line)) u (pos 0) +ℤ units_at p keys (lefts new) ≡ units_at p keys (lefts old)
     line_given old line u new (inl (i, share, s, low, key, is, takes, after)) =
         let moved = units_set keys old i share s low is in
@@ -139,7 +142,8 @@ nothing_to_fill lists table [] shares is h = rw is refl
 nothing_to_fill lists table (u ∷ flow) shares is h = absurd (grind (arith, nat_tests))
 
 -- where no line is left, nothing is given
-pub nothing_to_give : (bounds : ArcLine → CostArc) (keys : List (ℤ × ℤ)) (shares : List PairShare) (lines : List ArcLine)
+pub nothing_to_give : (bounds : ArcLine
+    → CostArc) (keys : List (ℤ × ℤ)) (shares : List PairShare) (lines : List ArcLine)
     (i : ℕ) → length lines ≤ i → Gives bounds keys shares (drop i lines) [] shares
 nothing_to_give bounds keys shares lines i few = rw (drop_all i lines few) (refl, refl)
 
@@ -177,8 +181,10 @@ pub one_position : (ks : List (ℤ × ℤ)) → IsDistinct same_pair ks → (i j
     → key_at ks i ≡ key_at ks j → i ≡ j
 one_position [] d i j low l e = absurd (omega (arith, low))
 one_position (k ∷ ks) d zero zero low l e = refl
-one_position (k ∷ ks) d zero (suc j) low l e = absurd (unlike k ks j (IsDistinct-head same_pair k ks d) (omega (arith, l)) e)
-one_position (k ∷ ks) d (suc i) zero low l e = absurd (unlike k ks i (IsDistinct-head same_pair k ks d) (omega (arith, low)) (sym e))
+one_position (k ∷ ks) d zero (suc j) low l e = absurd (unlike k ks j (IsDistinct-head same_pair k ks d) (omega
+    (arith, l)) e)
+one_position (k ∷ ks) d (suc i) zero low l e = absurd (unlike k ks i (IsDistinct-head same_pair k ks d) (omega
+    (arith, low)) (sym e))
 one_position (k ∷ ks) d (suc i) (suc j) low l e =
     ap suc (one_position ks (IsDistinct-tail same_pair k ks d) i j (omega (arith, low)) (omega (arith, l)) e)
 
@@ -224,7 +230,8 @@ module _ (bounds : ArcLine → CostArc) (keys : List (ℤ × ℤ)) (apart : IsDi
       subst (λ l. IsRest (share_at l i) line u) same r
 
   -- the lines of the pair at i get what the share there leaves them
-  later : (i : ℕ) → i < length keys → (old : List PairShare) (lines : List ArcLine) (units : List ℤ) (new : List PairShare)
+  later : (i : ℕ) → i < length keys
+      → (old : List PairShare) (lines : List ArcLine) (units : List ℤ) (new : List PairShare)
       → Gives bounds keys old lines units new
       → AllLines (λ line u. pair_of line ≡ key_at keys i → IsRest (share_at old i) (bounds line) u) lines units
   later i low old [] units new h = tt
@@ -235,7 +242,8 @@ module _ (bounds : ArcLine → CostArc) (keys : List (ℤ × ℤ)) (apart : IsDi
       subst (AllLines (λ l v. pair_of l ≡ key_at keys i → IsRest (share_at old i) (bounds l) v) (line ∷ lines)) (sym is)
       (here, others)
     where
-      here_rest : (old : List PairShare) (line : ArcLine) (u : ℤ) (next : List PairShare) → GivesLine bounds keys old line u next
+      here_rest : (old : List PairShare) (line : ArcLine) (u : ℤ) (next : List PairShare)
+          → GivesLine bounds keys old line u next
           → pair_of line ≡ key_at keys i → IsRest (share_at old i) (bounds line) u
       here_rest old line u next (inl (j, share, s, within, key, got, takes, after)) e =
           let same = one_position keys apart j i within low (key ∙ e) in
@@ -294,7 +302,11 @@ module _ (bounds : ArcLine → CostArc) (keys : List (ℤ × ℤ)) (apart : IsDi
     where
       has_bounds : GivesLine bounds keys old line u next → ((bounds line).low ≤ℤ u) × (u ≤ℤ (bounds line).cap)
       has_bounds (inl (j, share, s, within, key, got, takes, after)) = (takes.part.low, takes.part.high)
-      has_bounds (inr (none, low, high, nothing, same)) = (omega (arith, ints, nothing, low), omega (arith, ints, nothing, high))
+      has_bounds (inr (none, low, high, nothing, same)) = (
+        omega (arith, ints, nothing, low),
+        omega
+            (arith, ints, nothing, high),
+      )
 
 -- shares that are filled from a flow, and given to lines until none is left, spread the flow
 pub spread_is : {B Arc : Type 0} (bounds : ArcLine → CostArc) (lists : B → List Arc) (table : List ((ℤ × ℤ) × B))

@@ -8,7 +8,8 @@ use dn_table::Table;
 const LINES: usize = 32;
 
 // Where the pairs of the next lines are likely to be. In a text whose lines are sorted, each pair is after the one
-// before. In others, the pairs of many lines are looked for at once, so that none of them waits for the memory of another.
+// before. In others, the pairs of many lines are looked for at once, so that none of them waits for the memory of
+// another.
 #[derive(Clone, Copy)]
 pub(crate) struct Ahead {
     guesses: [usize; LINES],

@@ -31,12 +31,13 @@ pub(crate) trait Carries: Bundle {
     fn bounds(line: &ArcLine) -> CostArc
         ensures { result ≡ carried (line_arc line.now) };
 
-    // Returns what the lines of the pair share, if so many units fit them. If the units can be split among arcs that mean
-    // the same as the bundle, these share them.
+    // Returns what the lines of the pair share, if so many units fit them. If the units can be split among arcs that
+    // mean the same as the bundle, these share them.
     fn share(&self, units: &i64) -> Option<PairShare>
         ensures left { IfSome result (λ s. s.left ≡ units.now) }
         ensures shares { (arcs : List Self.Arc) → AllByRecursion Self.bundle.kind.IsArc arcs
-            → Self.bundle.kind.Same arcs (meant Self.bundle self.now) → (xs : List ℤ) → IsSplit (map carried arcs) units.now xs
+            → Self.bundle.kind.Same arcs (meant Self.bundle self.now) → (xs : List ℤ)
+            → IsSplit (map carried arcs) units.now xs
             → SharesOut (map carried arcs) result };
 
     // The bounds of an arc are those of an arc of a `min` problem.

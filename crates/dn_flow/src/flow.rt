@@ -105,7 +105,8 @@ fn spread_over<B: Carries>(
     ensures ok { OnOk result (IsSpread (λ line. B.carried (B.line_arc line)) (B.bundle.listed form) table.now flow.now
         lines.now units.new) }
     ensures no_flow { (result ≡ Err SpreadFault.NotAFlow) → AreLines count lines.now
-        → CanSpread B.bundle.kind B.line_arc B.carried (B.bundle.listed form) (meant B.bundle) table.now flow.now lines.now
+        → CanSpread B.bundle.kind B.line_arc B.carried (B.bundle.listed form)
+        (meant B.bundle) table.now flow.now lines.now
         → ⊥ }
 {
     if shares.len() < table.len() || units.len() != lines.len() {
@@ -172,7 +173,8 @@ fn sum_of(flow: &[i64], count: u64) -> Option<(i64, &[i64])>
 // Returns the sum of these numbers, if none is negative, and the sum is below 2^63.
 fn sum(numbers: &[i64]) -> Option<i64>
     ensures sum { IfSome result (λ r. r ≡ total numbers.now) }
-    ensures some { AllByRecursion (λ u. pos 0 ≤ℤ u) numbers.now → total numbers.now ≤ℤ pos (2 ^ 63 - 1) → IsSome result }
+    ensures some { AllByRecursion (λ u. pos 0 ≤ℤ u) numbers.now → total numbers.now ≤ℤ pos (2 ^ 63 - 1)
+        → IsSome result }
 {
     let mut sum: i64 = 0;
     for number in numbers {
@@ -212,8 +214,8 @@ fn give<B: Carries>(
     true
 }
 
-// Gives a line its part of the share of its pair, and returns its units. The pair is likely to be at `near`, which is then
-// the position after it.
+// Gives a line its part of the share of its pair, and returns its units. The pair is likely to be at `near`, which is
+// then the position after it.
 fn give_line<B: Carries>(
     table: &Table<B>,
     line: &ArcLine,

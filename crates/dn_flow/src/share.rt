@@ -19,8 +19,8 @@ pub struct PairShare {
     pub left: i64,
 }
 
-// Takes the units of the next line of the pair, and returns them, or `None` if the line has no room for its part, or the
-// pair too few units for it.
+// Takes the units of the next line of the pair, and returns them, or `None` if the line has no room for its part, or
+// the pair too few units for it.
 pub(crate) fn take(share: &mut PairShare, line: &CostArc) -> Option<i64>
     ensures takes { IfSome result (λ u. Takes share.old line.now u share.new) }
     ensures balanced { (lines : List CostArc) → IsCostArc line.now → AllByRecursion IsCostArc lines

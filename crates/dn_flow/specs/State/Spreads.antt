@@ -1,5 +1,5 @@
--- A flow on the arc lines of a text that is the same as one on canonical arcs (this project's profile; the formats of the
--- First DIMACS Challenge let parallel arcs carry any units between their lower bounds and capacities).
+-- A flow on the arc lines of a text that is the same as one on canonical arcs (this project's profile; the formats of
+-- the First DIMACS Challenge let parallel arcs carry any units between their lower bounds and capacities).
 use Rattle.std.specs.Prelude.{◌≡◌, ◌≢◌, ◌⊎◌, ◌-◌, ◌^◌, ℕ, ◌<◌, ℤ, pos, ◌+ℤ◌, ◌≤ℤ◌, ◌<ℤ◌, List, [], ◌∷◌, length, map, cond}
 use Rattle.std.specs.List.{AllByRecursion}
 use Rattle.dn_arc_theory.specs.Kinds.{ArcKind, lengths, capacities, costs}
@@ -40,8 +40,8 @@ cap_line line = record { cap = line.a }
 abbrev pub cost_line : ArcLine → CostArc
 cost_line line = record { low = line.a; cap = line.b; cost = line.c }
 
--- the lower bound, the capacity and the cost of a unit of an arc: each arc of an `sp` graph carries any units that fit 64
--- bits, at its length
+-- the lower bound, the capacity and the cost of a unit of an arc: each arc of an `sp` graph carries any units that fit
+-- 64 bits, at its length
 abbrev pub length_carried : LengthArc → CostArc
 length_carried a = record { low = pos 0; cap = pos (2 ^ 63 - 1); cost = a.length }
 
@@ -70,8 +70,8 @@ units_at p [] units = pos 0
 units_at p (q ∷ pairs) [] = pos 0
 units_at p (q ∷ pairs) (u ∷ units) = cond (same_pair p q) u (pos 0) +ℤ units_at p pairs units
 
--- of two lines of one pair, the one that costs less is full, or the other has its lower bound; of two that cost the same,
--- the first one counts as the one that costs less
+-- of two lines of one pair, the one that costs less is full, or the other has its lower bound; of two that cost the
+-- same, the first one counts as the one that costs less
 pub record IsInOrder (bounds : ArcLine → CostArc) (first : ArcLine) (u : ℤ) (next : ArcLine) (v : ℤ) : Type 0 where
   pub before : pair_of first ≡ pair_of next → (bounds first).cost ≤ℤ (bounds next).cost
       → (u ≡ (bounds first).cap) ⊎ (v ≡ (bounds next).low)
@@ -95,11 +95,12 @@ pub record IsSpread {B Arc : Type 0} (bounds : ArcLine → CostArc) (lists : B �
     (flow : List ℤ) (lines : List ArcLine) (units : List ℤ) : Type 0 where
   pub each_arc : length flow ≡ length (listed_arcs lists table)
   pub within : AreShares (map bounds lines) units
-  pub same : (p : ℤ × ℤ) → units_at p (map pair_of lines) units ≡ units_at p (map (λ a. a.0) (listed_arcs lists table)) flow
+  pub same : (p : ℤ × ℤ)
+      → units_at p (map pair_of lines) units ≡ units_at p (map (λ a. a.0) (listed_arcs lists table)) flow
   pub cheapest : AreInOrder bounds lines units
 
--- the lines mean what the table does, and some units of them are the flow, which has a number of at least 0 for each arc,
--- and for each pair units that fit 64 bits
+-- the lines mean what the table does, and some units of them are the flow, which has a number of at least 0 for each
+-- arc, and for each pair units that fit 64 bits
 pub record CanSpread {B Arc : Type 0} (kind : ArcKind Arc) (arc : ArcLine → Arc) (carried : Arc → CostArc)
     (lists meant : B → List Arc) (table : List ((ℤ × ℤ) × B)) (flow : List ℤ) (lines : List ArcLine) : Type 0 where
   pub each : AllByRecursion (λ line. kind.IsArc (arc line)) lines

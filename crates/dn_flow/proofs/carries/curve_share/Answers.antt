@@ -13,7 +13,8 @@ pub overflow_sub-rest : goal.overflow_sub-rest
 overflow_sub-rest c =
     let curve = c.args.curve.now in
     let low = sound_low curve.units curve.cost curve.total curve.steps curve.sound in
-    let enough = not_less c.args.units.now c.forced-forced.result.0 (search rules) (search rules) c.if-units-forced.false in
+    let enough = not_less c.args.units.now c.forced-forced.result.0 (search rules)
+    (search rules) c.if-units-forced.false in
     let most : c.args.units.now ≤ℤ pos (2 ^ 63 - 1) = search rules in
     rw (to_z-of_z w64 c.args.units.now (search rules), to_z-of_z w64 c.forced-forced.result.0 (search rules))
     (fits_some _ (omega (arith, ints, enough)) (omega (arith, ints, low, most, c.forced-forced.ensures.units)))

@@ -23,7 +23,8 @@ returns-then-not-fill-clause-no_flow g c failed are can =
     let facts = g.B.Bundle.bundle in
     let table = c.args.table.now in
     let apart = IsDistinct-from_sorted pair_cmp (keys_of table) c.fill.ensures.ascending in
-    let fits = can_fit facts.kind g.B.Carries.line_arc g.B.Carries.carried (facts.listed c.args.form) (meant facts) table
+    let fits = can_fit facts.kind g.B.Carries.line_arc g.B.Carries.carried (facts.listed c.args.form)
+    (meant facts) table
     c.args.flow.now c.args.lines.now can apart in
     not_both c.fill.result (search rules) (c.fill.ensures.all (arcs_by g.B.Carries.line_arc c.args.lines.now) fits).0
 
@@ -38,7 +39,8 @@ returns-then-not-give-clause-no_flow g c failed are can =
     let apart = IsDistinct-from_sorted pair_cmp (keys_of table) c.fill.ensures.ascending in
     let fits = can_fit facts.kind arc carried lists (meant facts) table c.args.flow.now lines can apart in
     let filled = (c.fill.ensures.all (arcs_by arc lines) fits).1 in
-    let balanced = begun facts.kind arc carried lists (meant facts) g.met.B.Carries.carries g.met.B.Carries.nothing table
+    let balanced = begun facts.kind arc carried lists
+    (meant facts) g.met.B.Carries.carries g.met.B.Carries.nothing table
     c.fill.new.shares c.args.flow.now lines can filled in
     let given = c.give.ensures.all apart balanced in
     not_both c.give.result (search rules) given.0
@@ -54,7 +56,8 @@ returns-then-not-are_none-clause-no_flow g c failed are can =
     let apart = IsDistinct-from_sorted pair_cmp (keys_of table) c.fill.ensures.ascending in
     let fits = can_fit facts.kind arc carried lists (meant facts) table c.args.flow.now lines can apart in
     let filled = (c.fill.ensures.all (arcs_by arc lines) fits).1 in
-    let balanced = begun facts.kind arc carried lists (meant facts) g.met.B.Carries.carries g.met.B.Carries.nothing table
+    let balanced = begun facts.kind arc carried lists
+    (meant facts) g.met.B.Carries.carries g.met.B.Carries.nothing table
     c.fill.new.shares c.args.flow.now lines can filled in
     let given = c.give.ensures.all apart balanced in
     let shares = c.give.new.shares in
