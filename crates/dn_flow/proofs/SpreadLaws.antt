@@ -5,7 +5,8 @@ use Rattle.std.proofs.lemmas.Bool.{cases_Bool}
 use Rattle.std.proofs.lemmas.Bool.Decides.{nat_tests}
 use Rattle.std.proofs.lemmas.Int.{by_lt_z, ints}
 use Rattle.std.proofs.lemmas.Option.{get_or_from_slice_get, slice_get_within}
-use Rattle.std.specs.List.{AllByRecursion, IsDistinct, list_any}
+use Rattle.std.specs.List.{AllByRecursion, IsDistinct, list_any, zip}
+use Rattle.dn_arc_theory.specs.Canonical.{ArePairwise}
 use Rattle.dn_arc_theory.proofs.PairLaws.{pair_self}
 use Rattle.std.proofs.lemmas.List.{take_more_set, drop_all, get_or-set_same, get_or-set_other, length-append, length-map, map-append, take-append-drop}
 use Rattle.std.specs.Map.{keys_of}
@@ -17,7 +18,7 @@ use Rattle.dn_arc_theory.specs.declared.arc.CostArc.{CostArc}
 use Rattle.dn_arc_lines.specs.declared.arc_line.ArcLine.{ArcLine}
 use Rattle.dn_canon.specs.State.ListedArcs.{placed, listed_arcs}
 use Rattle.pair_index.specs.State.Positions.{key_at}
-use Rattle.dn_flow.specs.State.Spreads.{pair_of, units_at, AllLines, AreInOrder, IsInOrder, IsSpread}
+use Rattle.dn_flow.specs.State.Spreads.{pair_of, units_at, IsInOrder, IsSpread}
 use Rattle.dn_flow.specs.State.Givings.{lefts, AreNone, Fills, Gives, GivesLine, Takes}
 use Rattle.dn_flow.specs.declared.share.PairShare.{PairShare}
 
@@ -35,6 +36,11 @@ flow_length {Arc = Arc} lists (e ∷ table) flow (s ∷ shares) h =
     let arcs = length-append (placed e.0 (lists e.1)) (listed_arcs lists table) in
     let few = length-map {B = (ℤ × ℤ) × Arc} (lists e.1) (λ a. (e.0, a)) in
     omega (arith, rest, whole, parts, arcs, few, h.0)
+
+-- this holds of each line and its units
+abbrev pub AllLines : (ArcLine → ℤ → Type 0) → List ArcLine → List ℤ → Type 0
+AllLines Is (line ∷ lines) (u ∷ units) = Is line u × AllLines Is lines units
+AllLines Is _ _ = Unit {0}
 
 module _ (p : ℤ × ℤ) where
   -- the units of two lists, one behind the other
@@ -160,6 +166,12 @@ lines_all Q f [] units = tt
 lines_all Q f (line ∷ lines) [] = tt
 lines_all Q f (line ∷ lines) (u ∷ units) = (f line u, lines_all Q f lines units)
 
+zip_each : (P : ArcLine × ℤ → Type 0) (lines : List ArcLine) (units : List ℤ) → AllLines (λ line u. P (line, u)) lines units
+    → AllByRecursion P (zip lines units)
+zip_each P [] units h = tt
+zip_each P (line ∷ lines) [] h = tt
+zip_each P (line ∷ lines) (u ∷ units) h = (h.0, zip_each P lines units h.1)
+
 -- a pair that differs from each of these is none of them
 unlike : (k : ℤ × ℤ) (ks : List (ℤ × ℤ)) (j : ℕ) → AllByRecursion (λ y. same_pair k y ≡ false) ks → j < length ks
     → k ≡ key_at ks j → ⊥
@@ -256,7 +268,7 @@ module _ (bounds : ArcLine → CostArc) (keys : List (ℤ × ℤ)) (apart : IsDi
 
   -- a line that took its units, and one that gets what it leaves, are in order
   ordered : (share s : PairShare) (first : ArcLine) (u : ℤ) → Takes share (bounds first) u s → (next : ArcLine) (v : ℤ)
-      → (pair_of first ≡ pair_of next → IsRest s (bounds next) v) → IsInOrder bounds first u next v
+      → (pair_of first ≡ pair_of next → IsRest s (bounds next) v) → IsInOrder bounds (first, u) (next, v)
   ordered share s first u t next v h = record {
     before = λ same le. by_lt_z (bounds first).cost share.cost (λ lt. inl (t.part.cheap lt))
         (λ ge. by_lt_z share.cost (bounds first).cost
@@ -273,12 +285,13 @@ module _ (bounds : ArcLine → CostArc) (keys : List (ℤ × ℤ)) (apart : IsDi
 
   -- the cheapest lines of a pair have its units, and of equal ones the first
   in_order : (old : List PairShare) (lines : List ArcLine) (units : List ℤ) (new : List PairShare)
-      → Gives bounds keys old lines units new → AreInOrder bounds lines units
+      → Gives bounds keys old lines units new → ArePairwise (IsInOrder bounds) (zip lines units)
   in_order old [] units new h = tt
   in_order old (line ∷ lines) units new (u, rest, next, is, one, more) =
-      subst (AreInOrder bounds (line ∷ lines)) (sym is) (pairs one, in_order next lines rest new more)
+      subst (λ us. ArePairwise (IsInOrder bounds) (zip (line ∷ lines) us)) (sym is)
+      (zip_each (IsInOrder bounds (line, u)) lines rest (pairs one), in_order next lines rest new more)
     where
-      pairs : GivesLine bounds keys old line u next → AllLines (IsInOrder bounds line u) lines rest
+      pairs : GivesLine bounds keys old line u next → AllLines (λ l v. IsInOrder bounds (line, u) (l, v)) lines rest
       pairs (inl (j, share, s, within, key, got, takes, after)) =
           let long = slice_get_within old j share got in
           let now : share_at next j ≡ s = ap (λ l. share_at l j) after ∙ get_or-set_same old j s _ long in
@@ -286,7 +299,7 @@ module _ (bounds : ArcLine → CostArc) (keys : List (ℤ × ℤ)) (apart : IsDi
           (λ same. subst (λ x. IsRest x (bounds l) v) now (r (sym same ∙ sym key)))) lines rest
           (later j within next lines rest new more)
       pairs (inr (none, low, high, nothing, same)) =
-          lines_all (IsInOrder bounds line u) (λ l v. record {
+          lines_all (λ l v. IsInOrder bounds (line, u) (l, v)) (λ l v. record {
             before = λ e le. inl (nothing ∙ sym high);
             behind = λ e lt. inr (nothing ∙ sym low);
           }) lines rest

@@ -1,7 +1,8 @@
 -- A flow on the arc lines of a text that is the same as one on canonical arcs (this project's profile; the formats of
 -- the First DIMACS Challenge let parallel arcs carry any units between their lower bounds and capacities).
 use Rattle.std.specs.Prelude.{◌≡◌, ◌≢◌, ◌⊎◌, ◌-◌, ◌^◌, ℕ, ◌<◌, ℤ, pos, ◌+ℤ◌, ◌≤ℤ◌, ◌<ℤ◌, List, [], ◌∷◌, length, map, cond}
-use Rattle.std.specs.List.{AllByRecursion}
+use Rattle.std.specs.List.{AllByRecursion, zip}
+use Rattle.dn_arc_theory.specs.Canonical.{ArePairwise}
 use Rattle.dn_arc_theory.specs.Kinds.{ArcKind, lengths, capacities, costs}
 use Rattle.dn_arc_theory.specs.Pairs.{bundle, same_pair}
 use Rattle.dn_arc_theory.specs.Splits.{AreShares}
@@ -40,8 +41,7 @@ cap_line line = record { cap = line.a }
 abbrev pub cost_line : ArcLine → CostArc
 cost_line line = record { low = line.a; cap = line.b; cost = line.c }
 
--- the lower bound, the capacity and the cost of a unit of an arc: each arc of an `sp` graph carries any units that fit
--- 64 bits, at its length
+-- what an arc carries: in `sp` each carries any units that fit 64 bits, at its length
 abbrev pub length_carried : LengthArc → CostArc
 length_carried a = record { low = pos 0; cap = pos (2 ^ 63 - 1); cost = a.length }
 
@@ -50,15 +50,6 @@ cap_carried a = record { low = pos 0; cap = a.cap; cost = pos 0 }
 
 abbrev pub cost_carried : CostArc → CostArc
 cost_carried a = a
-
-abbrev pub length_bounds : ArcLine → CostArc
-length_bounds line = length_carried (length_line line)
-
-abbrev pub cap_bounds : ArcLine → CostArc
-cap_bounds line = cap_carried (cap_line line)
-
-abbrev pub cost_bounds : ArcLine → CostArc
-cost_bounds line = cost_carried (cost_line line)
 
 -- the arcs of lines, each at its pair
 abbrev pub arcs_by : {Arc : Type 0} → (ArcLine → Arc) → List ArcLine → List ((ℤ × ℤ) × Arc)
@@ -70,37 +61,23 @@ units_at p [] units = pos 0
 units_at p (q ∷ pairs) [] = pos 0
 units_at p (q ∷ pairs) (u ∷ units) = cond (same_pair p q) u (pos 0) +ℤ units_at p pairs units
 
--- of two lines of one pair, the one that costs less is full, or the other has its lower bound; of two that cost the
--- same, the first one counts as the one that costs less
-pub record IsInOrder (bounds : ArcLine → CostArc) (first : ArcLine) (u : ℤ) (next : ArcLine) (v : ℤ) : Type 0 where
-  pub before : pair_of first ≡ pair_of next → (bounds first).cost ≤ℤ (bounds next).cost
-      → (u ≡ (bounds first).cap) ⊎ (v ≡ (bounds next).low)
-  pub behind : pair_of first ≡ pair_of next → (bounds next).cost <ℤ (bounds first).cost
-      → (v ≡ (bounds next).cap) ⊎ (u ≡ (bounds first).low)
+-- of two lines of one pair, the cheaper one, or of equal ones the first, is full, or the other has its lower bound
+pub record IsInOrder (bounds : ArcLine → CostArc) (x y : ArcLine × ℤ) : Type 0 where
+  pub before : pair_of x.0 ≡ pair_of y.0 → (bounds x.0).cost ≤ℤ (bounds y.0).cost
+      → (x.1 ≡ (bounds x.0).cap) ⊎ (y.1 ≡ (bounds y.0).low)
+  pub behind : pair_of x.0 ≡ pair_of y.0 → (bounds y.0).cost <ℤ (bounds x.0).cost
+      → (y.1 ≡ (bounds y.0).cap) ⊎ (x.1 ≡ (bounds x.0).low)
 
--- this holds of each line and its units
-abbrev pub AllLines : (ArcLine → ℤ → Type 0) → List ArcLine → List ℤ → Type 0
-AllLines Is (line ∷ lines) (u ∷ units) = Is line u × AllLines Is lines units
-AllLines Is _ _ = Unit {0}
-
--- each two lines are in order
-abbrev pub AreInOrder : (ArcLine → CostArc) → List ArcLine → List ℤ → Type 0
-AreInOrder bounds (line ∷ lines) (u ∷ units) =
-    AllLines (IsInOrder bounds line u) lines units × AreInOrder bounds lines units
-AreInOrder bounds _ _ = Unit {0}
-
--- these units of the lines are the flow on the canonical arcs: each line has units within its bounds, the units of each
--- pair are those of its arcs, and the cheapest lines of a pair have them, and of equal ones the first
+-- these units of the lines are the flow on the canonical arcs, and the cheapest lines of each pair have them
 pub record IsSpread {B Arc : Type 0} (bounds : ArcLine → CostArc) (lists : B → List Arc) (table : List ((ℤ × ℤ) × B))
     (flow : List ℤ) (lines : List ArcLine) (units : List ℤ) : Type 0 where
   pub each_arc : length flow ≡ length (listed_arcs lists table)
   pub within : AreShares (map bounds lines) units
   pub same : (p : ℤ × ℤ)
       → units_at p (map pair_of lines) units ≡ units_at p (map (λ a. a.0) (listed_arcs lists table)) flow
-  pub cheapest : AreInOrder bounds lines units
+  pub cheapest : ArePairwise (IsInOrder bounds) (zip lines units)
 
--- the lines mean what the table does, and some units of them are the flow, which has a number of at least 0 for each
--- arc, and for each pair units that fit 64 bits
+-- the lines mean what the table does, and some units of them are the flow; those of each pair fit 64 bits
 pub record CanSpread {B Arc : Type 0} (kind : ArcKind Arc) (arc : ArcLine → Arc) (carried : Arc → CostArc)
     (lists meant : B → List Arc) (table : List ((ℤ × ℤ) × B)) (flow : List ℤ) (lines : List ArcLine) : Type 0 where
   pub each : AllByRecursion (λ line. kind.IsArc (arc line)) lines
@@ -123,9 +100,9 @@ CanSpreadOn form _ = λ flow lines. ⊥
 
 -- the same by the kind of the instance; a companion has no arcs
 abbrev pub Spreads : Form → Contents → List ℤ → List ArcLine → List ℤ → Type 0
-Spreads form (OfMin flows table) = IsSpread cost_bounds (curve_arcs form) table
-Spreads form (OfMax source sink table) = IsSpread cap_bounds total_arcs table
-Spreads form (OfSp table) = IsSpread length_bounds least_arcs table
+Spreads form (OfMin flows table) = IsSpread (λ line. cost_carried (cost_line line)) (curve_arcs form) table
+Spreads form (OfMax source sink table) = IsSpread (λ line. cap_carried (cap_line line)) total_arcs table
+Spreads form (OfSp table) = IsSpread (λ line. length_carried (length_line line)) least_arcs table
 Spreads form _ = λ flow lines units. ⊥
 
 -- a companion has no arcs
