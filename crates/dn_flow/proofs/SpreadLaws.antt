@@ -166,8 +166,8 @@ lines_all Q f [] units = tt
 lines_all Q f (line ∷ lines) [] = tt
 lines_all Q f (line ∷ lines) (u ∷ units) = (f line u, lines_all Q f lines units)
 
-zip_each : (P : ArcLine × ℤ → Type 0) (lines : List ArcLine) (units : List ℤ) → AllLines (λ line u. P (line, u)) lines units
-    → AllByRecursion P (zip lines units)
+zip_each : (P : ArcLine × ℤ → Type 0) (lines : List ArcLine) (units : List ℤ)
+    → AllLines (λ line u. P (line, u)) lines units → AllByRecursion P (zip lines units)
 zip_each P [] units h = tt
 zip_each P (line ∷ lines) [] h = tt
 zip_each P (line ∷ lines) (u ∷ units) h = (h.0, zip_each P lines units h.1)

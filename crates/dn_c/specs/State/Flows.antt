@@ -13,8 +13,8 @@ use Rattle.dn_c.specs.declared.work.Work.TheVariants as Works
 abbrev pub not_a_flow : Status
 not_a_flow = record { code = 42; place = 0; line = 0 }
 
--- the lines, if they are those of the instance, get the units of the flow; or no units of them are it; or the call is not
--- for the instance, or has less room than it needs, and the units are as they were
+-- the lines, if they are those of the instance, get the units of the flow; or no units of them are it; or the call is
+-- not for the instance, or has less room than it needs, and the units are as they were
 abbrev pub SpreadsHeld : Option Work → ℕ → List ℤ → List ArcLine → ℕ → List ℤ → List ℤ → Status → Type 0
 SpreadsHeld (Some (Works.Read held _)) form flow lines shares old new status =
     ((status ≡ fine) × AreLines held.lines lines × Spreads (form_numbered form) held.contents flow lines new)
