@@ -327,8 +327,9 @@ dnorm_fit dnorm_fits(const dnorm *graph, const dnorm *companion);
    units of each arc, in the order of dnorm_next, and `units` gets those of each line, from its lower bound to its
    capacity (in `sp` from 0 to 2^63-1). The lines of a pair have the units of its arcs. Of two lines of a pair, the one
    that costs less (in `sp` the shorter one; of equal ones the first in the text) is full, or the other one has its
-   lower bound. It is well known that no units of the lines that are this flow cost less then; no law says so.
-   `shares` is room to work in: one share for each pair that dnorm_facts counts. What is in it does not matter.
+   lower bound. It is well known that no units of the lines that are this flow cost less then; no law says so. Sums of
+   pairs count alone: the bounds of single arcs, and supplies, are not looked at. `shares` is room to work in: one
+   share for each pair that dnorm_facts counts. What is in it does not matter.
    Codes: DNORM_FINE; the lines are then as many as dnorm_facts tells, in the order of a text. DNORM_NOT_A_FLOW if no
    units of the lines are this flow, or the lines are not those of the graph; if `flow` has not as many numbers as
    there are arcs, or a negative one; or if a pair has more than 2^63-1 units. `units` and `shares` may have changed.

@@ -61,7 +61,7 @@ enum {
     ROW(DNORM_FINE, "Fine", "The call did what it is for.") \
     ROW(DNORM_WRONG_CALL, "WrongCall", "The handle is not for this call.") \
     ROW(DNORM_TOO_WIDE, "TooWide", "A number does not fit 32 bits.") \
-    ROW(DNORM_NOT_A_FLOW, "NotAFlow", "The units of a pair are not between its lower bounds and capacities.")
+    ROW(DNORM_NOT_A_FLOW, "NotAFlow", "The flow is none on the arc lines, or these are of another text.")
 
 /* Returns the name of a code, which is "Unknown" for a number that is none. */
 DNORM_INLINE const char *dnorm_code_name(uint8_t code) {

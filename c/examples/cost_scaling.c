@@ -1,6 +1,6 @@
 /* Prints the least cost of a `min` text, and the flow on each of its arc lines, by cost scaling: flow is pushed over
    residual arcs whose reduced costs are negative, and prices fall where none is. Costs are scaled by NODES + 1, so that
-   arcs which are optimal up to 1 are optimal.
+   arcs which are optimal up to 1 are optimal. Sums of flows and of costs must fit 64 bits, which is not checked.
 
        cost_scaling FILE */
 #include <dnorm.h>

@@ -41,9 +41,15 @@ static int solve(const dnorm_cpp::Instance &flow) {
     }
     lemon::NetworkSimplex<Graph, std::int64_t> simplex(graph);
     simplex.lowerMap(low).upperMap(cap).costMap(cost).supplyMap(supply);
-    if (balance != 0 || simplex.run() != simplex.OPTIMAL) {
+    // LEMON has no flow on a graph without nodes, and takes a capacity of 2^63-1 for none.
+    const auto end = flow.facts().nodes == 0 ? simplex.OPTIMAL : simplex.run();
+    if (balance != 0 || end == simplex.INFEASIBLE) {
         std::cout << "no flow\n";
         return 1;
+    }
+    if (end != simplex.OPTIMAL) {
+        std::cerr << "a cycle of negative cost has a capacity of 2^63-1, which is too much for LEMON\n";
+        return 2;
     }
     std::vector<std::int64_t> units;
     for (std::size_t i = 0; i < ends.size(); i++) units.push_back(simplex.flow(graph.arc(static_cast<int>(i))));

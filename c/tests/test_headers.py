@@ -425,7 +425,7 @@ def test_sentences(tools: str, tested: str) -> None:
     sentences = sentences_of(tested)
     sentences |= {0: "Fine: The call did what it is for.", 40: "WrongCall: The handle is not for this call."}
     sentences[41] = "TooWide: A number does not fit 32 bits."
-    sentences[42] = "NotAFlow: The units of a pair are not between its lower bounds and capacities."
+    sentences[42] = "NotAFlow: The flow is none on the arc lines, or these are of another text."
     assert run([tools, "codes"]) == said("".join(f"{it} {sentences.get(it, 'Unknown: ')}\n" for it in range(256)))
 
 
