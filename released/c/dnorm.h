@@ -24,11 +24,12 @@
    4. malloc, realloc and free belong to one allocator. No function is called from a signal handler.
    5. A call needs 32 kB of stack, whatever it is given.
 
-   The order of calls is free: a call that a `dnorm` is not for changes nothing, and returns DNORM_WRONG_CALL, the kind
-   DNORM_NO_KIND, or DNORM_NOT_BOTH.
+   The order of calls is free: a call that a `dnorm` is not for changes nothing, and returns DNORM_WRONG_CALL. The three
+   whose result has no such code return the kind DNORM_NO_KIND (dnorm_facts), or DNORM_NOT_BOTH (dnorm_compare and
+   dnorm_fits).
 
    The arc lines of the text, which the instance does not keep, come from another reader (dnorm_lines_begin). The inline
-   functions of dnorm_tools.h feed both, and put a flow on canonical arcs back on the arc lines.
+   functions of dnorm_tools.h feed both. dnorm_spread puts a flow on canonical arcs back on the arc lines.
 
    Some things are tested, and not proved. Of rule 3 it is proved that a call with a `const dnorm *` has that `dnorm`
    on loan, that a loan can be given any number of times, and that nothing is written through it; that several threads
@@ -59,11 +60,11 @@ extern "C" {
 
        1   libdnorm.so.1   1.2 and 1.3
        2   libdnorm.so.2   2.0
-       3   libdnorm.so.3   3.0 */
+       3   libdnorm.so.3   3.0 and 3.1 */
 #define DNORM_ABI 3
 
 /* The version of this file: 10000 times its first number, 100 times its second, and its third. */
-#define DNORM_VERSION 30000
+#define DNORM_VERSION 30100
 
 /* Owns nothing, a reader, an instance, a refusal, a canonical text, or a reader of arc lines. Its members are the
    library's. */
@@ -110,7 +111,9 @@ enum {
     /* The canonical text has more than 2^63-1 counted lines, or there are 2^64 arcs or more (dnorm_arc_count). */
     DNORM_COUNT_TOO_LARGE = 34,
     /* The `dnorm` is not for this call, and nothing changed. */
-    DNORM_WRONG_CALL = 40
+    DNORM_WRONG_CALL = 40,
+    /* The flow is none, or the lines are those of another text (dnorm_spread). */
+    DNORM_NOT_A_FLOW = 42
 };
 
 /* Places of a refusal. */
@@ -253,6 +256,11 @@ typedef struct dnorm_lines_given {
     uint64_t line;
 } dnorm_lines_given;
 
+/* What the lines of a pair have yet to share: room for dnorm_spread to work in. */
+typedef struct dnorm_share {
+    int64_t cost, rest, left;
+} dnorm_share;
+
 /* Makes a reader in `reader`, which owns nothing before.
    Codes: DNORM_FINE; DNORM_MEMORY, and it owns nothing; DNORM_WRONG_CALL if it owns anything, which it keeps. */
 dnorm_status dnorm_begin(dnorm *reader);
@@ -271,14 +279,14 @@ dnorm_status dnorm_finish(dnorm *reader);
 dnorm_status dnorm_lines_begin(dnorm *reader);
 
 /* Feeds the next bytes of the text, and writes the arc lines among the lines that end in them to `out`, in the order of
-   the text. It takes all bytes, unless it has filled `out`: then feed it the others, with room. Feed an LF behind the
-   last byte of the text, so that its last line ends.
+   the text. It takes all bytes, unless it has filled `out`: then feed it the others, with room. What `out` has behind
+   the lines that are counted does not change. Feed an LF behind the last byte of the text, so that its last line ends.
    Codes: DNORM_FINE; 1 to 5, 8 to 12 or 21 for the first line that has this fault by itself: no more bytes are taken
    after it. DNORM_WRONG_CALL if there is no reader of arc lines. */
 dnorm_lines_given dnorm_lines(dnorm *reader, const uint8_t *bytes, size_t length, dnorm_row *out, size_t room);
 
-/* Returns what the instance is, or what the problem line declares once a reader has read it. The kind is DNORM_NO_KIND
-   for any other `dnorm`. */
+/* Returns what the instance is, or what the problem line declares once a reader has read it. There is no code: the kind
+   is DNORM_NO_KIND for any other `dnorm`. */
 dnorm_summary dnorm_facts(const dnorm *any);
 
 /* Counts the canonical arcs in form 1 or 2. Any form but 2 is form 1. Forms matter only for `min`: form 1 has separate
@@ -303,16 +311,33 @@ dnorm_count dnorm_items(const dnorm *instance, dnorm_place *place, dnorm_item *o
 dnorm_status dnorm_canon(const dnorm *instance, uint8_t form, dnorm *text);
 
 /* Copies the bytes of a text to `out`, from the one at `from`, counted from 0, as far as there is room. It copies fewer
-   than there is room for only at the end of the text.
+   than there is room for only at the end of the text. What `out` has behind the bytes that are counted does not change.
    Codes: DNORM_FINE; DNORM_WRONG_CALL if there is no text. */
 dnorm_count dnorm_text(dnorm *text, size_t from, uint8_t *out, size_t room);
 
-/* Returns where two instances first differ: DNORM_SAME if they pose the same problem, and DNORM_NOT_BOTH if one of them
-   is no instance. */
+/* Returns where two instances first differ: DNORM_SAME if they pose the same problem. There is no code: `what` is
+   DNORM_NOT_BOTH if one of them is no instance. */
 dnorm_difference dnorm_compare(const dnorm *left, const dnorm *right);
 
-/* Returns whether `companion` is an `ss`, `p2p` or `co` instance that names only nodes of `graph`, an `sp` instance. */
+/* Returns whether `companion` is an `ss`, `p2p` or `co` instance that names only nodes of `graph`, an `sp` instance.
+   There is no other code than that of a dnorm_fit. */
 dnorm_fit dnorm_fits(const dnorm *graph, const dnorm *companion);
+
+/* Puts a flow on the canonical arcs of a graph, in form 1 or 2, back on the arc lines of its text. `flow` has the
+   units of each arc, in the order of dnorm_next, and `units` gets those of each line, from its lower bound to its
+   capacity (in `sp` from 0 to 2^63-1). The lines of a pair have the units of its arcs. Of two lines of a pair, the one
+   that costs less (in `sp` the shorter one; of equal ones the first in the text) is full, or the other one has its
+   lower bound. It is well known that no units of the lines that are this flow cost less then; no law says so. Sums of
+   pairs count alone: the bounds of single arcs, and supplies, are not looked at. `shares` is room to work in: one
+   share for each pair that dnorm_facts counts. What is in it does not matter.
+   Codes: DNORM_FINE; the lines are then as many as dnorm_facts tells, in the order of a text. DNORM_NOT_A_FLOW if no
+   units of the lines are this flow, or the lines are not those of the graph; if `flow` has not as many numbers as
+   there are arcs, or a negative one; or if a pair has more than 2^63-1 units. `units` and `shares` may have changed.
+   DNORM_WRONG_CALL if there is no graph, there are fewer shares than pairs, or not as many units as lines; `units` is
+   as it was, and so is, as is tested and not proved, `shares`. */
+dnorm_status dnorm_spread(const dnorm *graph, uint8_t form, const int64_t *flow, size_t flow_count,
+                          const dnorm_row *lines, size_t line_count, dnorm_share *shares, size_t share_count,
+                          int64_t *units, size_t unit_count);
 
 /* Frees what it owns. It then owns nothing, and may be used anew. Nothing happens if `any` is null. */
 void dnorm_free(dnorm *any);
@@ -396,11 +421,23 @@ DNORM_INLINE dnorm_lines_given dnorm_inline_lines(dnorm *reader, const uint8_t *
     return dnorm_lines(reader, length ? bytes : &none, length, room ? out : &no_row, room);
 }
 
+DNORM_INLINE dnorm_status dnorm_inline_spread(const dnorm *graph, uint8_t form, const int64_t *flow, size_t flow_count,
+                                              const dnorm_row *lines, size_t line_count, dnorm_share *shares,
+                                              size_t share_count, int64_t *units, size_t unit_count) {
+    const int64_t no_flow = 0;
+    const dnorm_row no_row = {0, 0, 0, 0, 0, 0};
+    dnorm_share no_share;
+    int64_t no_units;
+    return dnorm_spread(graph, form, flow_count ? flow : &no_flow, flow_count, line_count ? lines : &no_row, line_count,
+                        share_count ? shares : &no_share, share_count, unit_count ? units : &no_units, unit_count);
+}
+
 #define dnorm_feed(...) dnorm_inline_feed(__VA_ARGS__)
 #define dnorm_next(...) dnorm_inline_next(__VA_ARGS__)
 #define dnorm_items(...) dnorm_inline_items(__VA_ARGS__)
 #define dnorm_canon(...) dnorm_inline_canon(__VA_ARGS__)
 #define dnorm_text(...) dnorm_inline_text(__VA_ARGS__)
 #define dnorm_lines(...) dnorm_inline_lines(__VA_ARGS__)
+#define dnorm_spread(...) dnorm_inline_spread(__VA_ARGS__)
 #pragma pop_macro("dnorm")
 #endif
